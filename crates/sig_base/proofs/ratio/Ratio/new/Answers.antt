@@ -1,0 +1,9 @@
+use Rattle.std.proofs.Common.{arith}
+use Rattle.sig_base.proofs.Lowest.{lowest_parts, same_quotients}
+use Rattle.sig_base.proofs.ratio.Ratio.new.Goals as goal
+
+pub invariant_of-result : goal.invariant_of-result
+invariant_of-result c = record { lowest = lowest_parts _ _ _ (omega arith) c.greatest_divisor-divisor.ensures.greatest }
+
+pub returns-clause-value : goal.returns-clause-value
+returns-clause-value c = same_quotients _ _ _ c.greatest_divisor-divisor.ensures.greatest

@@ -1,0 +1,9 @@
+pub mod Fraction
+pub mod Ratio
+pub mod Text
+pub mod Padded
+pub mod LabelBack
+pub mod TitleBack
+pub mod Rose
+pub mod Shelf
+pub mod Sink
