@@ -1,1 +1,4 @@
 pub mod Lowest
+pub mod WriteLog
+pub mod Written
+pub mod Always

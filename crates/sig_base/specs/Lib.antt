@@ -1,3 +1,5 @@
+pub mod First
+pub mod Times
 pub mod Fraction
 pub mod Ratio
 pub mod Text
@@ -7,3 +9,10 @@ pub mod TitleBack
 pub mod Rose
 pub mod Shelf
 pub mod Sink
+pub mod Answers
+pub mod CallNumber
+pub mod WriteLog
+pub mod MemoryShelf
+pub mod MemorySink
+pub mod FileShelf
+pub mod StdSink

@@ -35,7 +35,7 @@ pub record FetchCause {T : Type 0} (told : Option Holdings) (name : List ℕ) (l
   pub refusals_later : refusals_old ≤ refusals_new
   pub failed : IsErrOf result Failed → Rose faults_old faults_new ⊎ Lacks told name
   pub too_long : IsErrOf result TooLong → Rose refusals_old refusals_new
-  pub exceeds : IsErrOf result TooLong → IfSome told (λ _. Exceeds told name limit) × (faults_new ≡ faults_old)
+  pub exceeds : IsErrOf result TooLong → IfSome told (λ _. Exceeds told name limit × (faults_new ≡ faults_old))
   pub refused : Exceeds told name limit → ¬ Rose faults_old faults_new → IsErrOf result TooLong ⊎ IsErrOf result Memory
 
 -- when a put is refused

@@ -3,23 +3,40 @@
 //! tells its bytes to contracts, and an adapter over files or standard output, which doesn't.
 #![tactic(auto)]
 
+mod call_number;
 mod divisor;
+mod file_shelf;
 mod group_times;
 mod label;
 mod lane_set;
+mod memory_shelf;
+mod memory_sink;
 mod no_memory;
+mod put_file;
 mod ratio;
+mod read_limited;
 mod shelf;
+mod sibling;
 mod sink;
+mod std_sink;
 mod target;
 mod title;
+mod write_log;
+mod write_whole;
 
+pub use file_shelf::FileShelf;
 pub use group_times::GroupTimes;
 pub use label::Label;
 pub use lane_set::LaneSet;
+pub use memory_shelf::MemoryShelf;
+pub use memory_sink::MemorySink;
 pub use no_memory::NoMemory;
 pub use ratio::Ratio;
 pub use shelf::{Shelf, ShelfFault};
 pub use sink::{Sink, SinkFault};
+pub use std_sink::StdSink;
 pub use target::Target;
 pub use title::Title;
+
+#[cfg(test)]
+mod tests;

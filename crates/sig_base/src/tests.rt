@@ -1,0 +1,5 @@
+mod faulty_files;
+mod files;
+mod memory;
+mod names;
+mod ratios;
