@@ -1,0 +1,7 @@
+-- What contracts see of conflicts: their table, and its conflicting pairs by number.
+pub use Rattle.conflict_matrix.specs.Pairs.{later_partners, pairs_of, lower_first}
+use Rattle.conflict_matrix.specs.Matrix.{Matrix}
+use Rattle.conflict_matrix.specs.declared.conflicts.Conflicts.{Conflicts}
+
+abbrev pub matrix_of : Conflicts → Matrix
+matrix_of c = record { groups = c.groups; cells = c.cells }

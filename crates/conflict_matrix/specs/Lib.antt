@@ -1,0 +1,6 @@
+pub mod Matrix
+pub mod Pairs
+pub mod Entries
+pub mod Filling
+pub mod Numbering
+pub mod Conflicts
