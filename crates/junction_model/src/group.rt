@@ -1,0 +1,8 @@
+use sig_base::{GroupTimes, Label};
+
+/// A signal group: signal heads that always show the same.
+#[derive(Clone, Copy, Debug, PartialEq, Eq)]
+pub struct Group {
+    pub label: Label,
+    pub times: GroupTimes,
+}

@@ -1,0 +1,134 @@
+ghost use Rattle.std.specs.Prelude.{◌≡◌, ◌↔◌, IsTrue};
+ghost use Rattle.conflict_matrix.specs.Conflicts.{matrix_of};
+ghost use Rattle.junction_model.specs.Covers.{cover_of};
+ghost use Rattle.junction_model.specs.Rules.{IsJunction};
+
+use crate::covers::tree_cover;
+use crate::group::Group;
+use crate::rules::{are_conflicts, are_cycles, are_groups, are_lanes};
+use conflict_matrix::Conflicts;
+use flow_model::Lane;
+use sig_base::Title;
+use std::marker::Model;
+
+/// A junction that keeps all the rules of a junction file.
+///
+/// Contracts see it as a record of its title's bytes, its least and greatest cycle in seconds, its
+/// list of groups, its list of lanes and the table of its conflicts.
+#[derive(Debug, Drop)]
+pub struct Junction {
+    title: Title,
+    least_cycle: u32,
+    greatest_cycle: u32,
+    groups: Vec<Group>,
+    lanes: Vec<Lane>,
+    conflicts: Conflicts,
+}
+
+impl Model for Junction {
+    ghost use Rattle.junction_model.specs.View.{JunctionView};
+    ghost use Rattle.junction_model.specs.Rules.{IsJunction};
+    ghost use Rattle.conflict_matrix.specs.Conflicts.{matrix_of};
+
+    ghost Value = { JunctionView };
+
+    ghost view = { λ j. record { title = j.title; least_cycle = j.least_cycle; greatest_cycle = j.greatest_cycle; groups = j.groups.items; lanes = j.lanes.items; conflicts = matrix_of j.conflicts } };
+
+    ghost invariant = { λ j. IsJunction (record { title = j.title; least_cycle = j.least_cycle; greatest_cycle = j.greatest_cycle; groups = j.groups.items; lanes = j.lanes.items; conflicts = matrix_of j.conflicts }) };
+}
+
+impl Junction {
+    /// Whether the parts keep all rules of a junction. The conflicts must have as many groups as the list.
+    pub fn accepts(
+        title: &Title,
+        least_cycle: u32,
+        greatest_cycle: u32,
+        groups: &[Group],
+        lanes: &[Lane],
+        conflicts: &Conflicts,
+    ) -> bool
+        ensures { IsTrue result ↔ IsJunction (record { title = title.now; least_cycle = least_cycle; greatest_cycle = greatest_cycle; groups = groups.now; lanes = lanes.now; conflicts = matrix_of conflicts.now }) }
+    {
+        are_cycles(least_cycle, greatest_cycle)
+            && are_groups(groups)
+            && are_lanes(groups.len(), lanes)
+            && are_conflicts(groups, conflicts)
+    }
+
+    /// The junction of these parts.
+    pub fn new(
+        title: Title,
+        least_cycle: u32,
+        greatest_cycle: u32,
+        groups: Vec<Group>,
+        lanes: Vec<Lane>,
+        conflicts: Conflicts,
+    ) -> Junction
+        requires { IsJunction (record { title = title; least_cycle = least_cycle; greatest_cycle = greatest_cycle; groups = groups.items; lanes = lanes.items; conflicts = matrix_of conflicts }) }
+        ensures { result ≡ record { title = title; least_cycle = least_cycle; greatest_cycle = greatest_cycle; groups = groups.items; lanes = lanes.items; conflicts = matrix_of conflicts } }
+    {
+        Junction {
+            title,
+            least_cycle,
+            greatest_cycle,
+            groups,
+            lanes,
+            conflicts,
+        }
+    }
+
+    pub fn title(&self) -> &Title
+        ensures value { result.now ≡ self.now.title }
+        ensures rules { IsJunction self.now }
+    {
+        &self.title
+    }
+
+    /// The shortest cycle that a plan may have, in seconds.
+    pub fn least_cycle(&self) -> u32
+        ensures value { result ≡ self.now.least_cycle }
+        ensures rules { IsJunction self.now }
+    {
+        self.least_cycle
+    }
+
+    /// The longest cycle that a plan may have, in seconds.
+    pub fn greatest_cycle(&self) -> u32
+        ensures value { result ≡ self.now.greatest_cycle }
+        ensures rules { IsJunction self.now }
+    {
+        self.greatest_cycle
+    }
+
+    /// The signal groups, in the order of the file.
+    pub fn groups(&self) -> &[Group]
+        ensures value { result.now ≡ self.now.groups }
+        ensures rules { IsJunction self.now }
+    {
+        &self.groups
+    }
+
+    /// The lanes, in the order of the file.
+    pub fn lanes(&self) -> &[Lane]
+        ensures value { result.now ≡ self.now.lanes }
+        ensures rules { IsJunction self.now }
+    {
+        &self.lanes
+    }
+
+    pub fn conflicts(&self) -> &Conflicts
+        ensures value { matrix_of result.now ≡ self.now.conflicts }
+        ensures rules { IsJunction self.now }
+    {
+        &self.conflicts
+    }
+
+    /// The greatest number of nodes that the search trees of all cycles can have together, where each
+    /// tree decides every conflicting pair without group 0 at most once on a branch.
+    pub fn covers(&self) -> u128
+        ensures { result ≡ cover_of self.now }
+    {
+        let cycles = u128::from(self.greatest_cycle() - self.least_cycle()) + 1;
+        cycles * tree_cover(self.conflicts())
+    }
+}

@@ -1,0 +1,144 @@
+ghost use Rattle.std.specs.Prelude.{ℕ, ◌≡◌, ◌↔◌, ◌<◌, ◌≤◌, length, Some, IsTrue, slice_get};
+ghost use Rattle.sig_base.specs.First.{SomeBelow};
+ghost use Rattle.sig_base.specs.Times.{AreTimes};
+ghost use Rattle.conflict_matrix.specs.Matrix.{AreConflicting, intergreen_of};
+ghost use Rattle.conflict_matrix.specs.Conflicts.{matrix_of};
+ghost use Rattle.flow_model.specs.Lane.{AreFlows};
+ghost use Rattle.junction_model.specs.Rules.{AreCycles, AreGroups, AreLanes, AreConflicts, IsGroup, IsLane, IsLongEnough, IsPairLongEnough, HasPartner};
+
+use crate::group::Group;
+use crate::labelled::are_distinct;
+use conflict_matrix::Conflicts;
+use flow_model::Lane;
+use sig_base::GroupTimes;
+
+pub fn are_cycles(least: u32, greatest: u32) -> bool
+    ensures { IsTrue result ↔ AreCycles least greatest }
+{
+    1 <= least && least <= greatest && greatest <= 300
+}
+
+fn are_times(times: &GroupTimes) -> bool
+    ensures { IsTrue result ↔ AreTimes times.now }
+{
+    times.min_green >= 1
+        && times.min_green <= 120
+        && times.amber <= 30
+        && times.red_amber <= 10
+        && (times.start_lost <= 10 && times.end_gain <= 30)
+}
+
+fn is_group(group: &Group) -> bool
+    ensures { IsTrue result ↔ IsGroup group.now }
+{
+    let times = &group.times;
+    are_times(times)
+        && times.end_gain <= times.amber
+        && u64::from(times.start_lost) < u64::from(times.min_green) + u64::from(times.end_gain)
+}
+
+pub fn are_groups(groups: &[Group]) -> bool
+    ensures { IsTrue result ↔ AreGroups groups.now }
+{
+    groups.len() >= 2 && groups.len() <= 16 && groups.iter().all(is_group) && are_distinct(groups)
+}
+
+fn are_flows(lane: &Lane) -> bool
+    ensures { IsTrue result ↔ AreFlows lane.now }
+{
+    lane.arrival <= 20000
+        && lane.saturation >= 1
+        && lane.saturation <= 20000
+        && lane.limit >= 1
+        && lane.limit <= 1000
+}
+
+fn is_lane(groups: usize, lane: &Lane) -> bool
+    ensures { IsTrue result ↔ IsLane groups lane.now }
+{
+    (lane.group as usize) < groups && are_flows(lane)
+}
+
+pub fn are_lanes(groups: usize, lanes: &[Lane]) -> bool
+    ensures { IsTrue result ↔ AreLanes groups lanes.now }
+{
+    !lanes.is_empty()
+        && lanes.len() <= 32
+        && lanes.iter().all(|lane| is_lane(groups, lane))
+        && are_distinct(lanes)
+        && lanes.iter().any(|lane| lane.arrival >= 1)
+}
+
+fn has_partner(conflicts: &Conflicts, i: usize) -> bool
+    requires { i < (matrix_of conflicts.now).groups }
+    ensures { IsTrue result ↔ HasPartner (matrix_of conflicts.now) i }
+{
+    for j in 0..conflicts.groups() {
+        if conflicts.intergreen(i, j).is_some() {
+            return true;
+        }
+    }
+    false
+}
+
+fn each_has_partner(conflicts: &Conflicts) -> bool
+    ensures { IsTrue result ↔ ((i : ℕ) → i < (matrix_of conflicts.now).groups → HasPartner (matrix_of conflicts.now) i) }
+{
+    for i in 0..conflicts.groups() {
+        if !has_partner(conflicts, i) {
+            return false;
+        }
+    }
+    true
+}
+
+fn is_long_enough(from: &Group, to: &Group, intergreen: u32) -> bool
+    ensures { IsTrue result ↔ IsLongEnough from.now to.now intergreen }
+{
+    from.times.amber <= intergreen && to.times.red_amber <= intergreen
+}
+
+fn is_pair_long_enough(groups: &[Group], conflicts: &Conflicts, i: usize, j: usize) -> bool
+    requires same { (matrix_of conflicts.now).groups ≡ length groups.now }
+    requires i { i < length groups.now }
+    requires j { j < length groups.now }
+    ensures { IsTrue result ↔ IsPairLongEnough groups.now (matrix_of conflicts.now) i j }
+{
+    match conflicts.intergreen(i, j) {
+        Some(intergreen) => is_long_enough(&groups[i], &groups[j], intergreen),
+        None => true,
+    }
+}
+
+fn are_long_enough_from(groups: &[Group], conflicts: &Conflicts, i: usize) -> bool
+    requires same { (matrix_of conflicts.now).groups ≡ length groups.now }
+    requires i { i < length groups.now }
+    ensures { IsTrue result ↔ ((j : ℕ) → j < length groups.now → IsPairLongEnough groups.now (matrix_of conflicts.now) i j) }
+{
+    for j in 0..groups.len() {
+        if !is_pair_long_enough(groups, conflicts, i, j) {
+            return false;
+        }
+    }
+    true
+}
+
+fn are_long_enough(groups: &[Group], conflicts: &Conflicts) -> bool
+    requires { (matrix_of conflicts.now).groups ≡ length groups.now }
+    ensures { IsTrue result ↔ ((i : ℕ) → i < length groups.now → (j : ℕ) → j < length groups.now → IsPairLongEnough groups.now (matrix_of conflicts.now) i j) }
+{
+    for i in 0..groups.len() {
+        if !are_long_enough_from(groups, conflicts, i) {
+            return false;
+        }
+    }
+    true
+}
+
+pub fn are_conflicts(groups: &[Group], conflicts: &Conflicts) -> bool
+    ensures { IsTrue result ↔ AreConflicts groups.now (matrix_of conflicts.now) }
+{
+    conflicts.groups() == groups.len()
+        && each_has_partner(conflicts)
+        && are_long_enough(groups, conflicts)
+}
