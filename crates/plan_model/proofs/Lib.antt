@@ -1,0 +1,10 @@
+pub mod Faultless
+pub mod Phase
+pub mod Shown
+pub mod Longest
+pub mod Fractions
+pub mod LeastLane
+pub mod Gaps
+pub mod Turned
+pub mod Served
+pub mod Reached

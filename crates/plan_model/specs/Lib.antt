@@ -1,0 +1,15 @@
+pub mod Plan
+pub mod Fits
+pub mod Multiplier
+pub mod Claims
+pub mod Plans
+pub mod FirstFault
+pub mod Fitted
+pub mod Ranges
+pub mod Longest
+pub mod Least
+pub mod Gap
+pub mod Turning
+pub mod Shortening
+pub mod Serving
+pub mod Reaching
