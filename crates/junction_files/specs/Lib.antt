@@ -1,0 +1,12 @@
+pub mod Document
+pub mod Rules
+pub mod Faults
+pub mod Order
+pub mod Meaning
+pub mod Reads
+pub mod Laws
+pub mod Spots
+pub mod First
+pub mod Faultless
+pub mod Line
+pub mod Printed

@@ -1,0 +1,58 @@
+-- The kinds, counts and ranges that the keys of a junction file ask for.
+use Rattle.std.specs.Prelude.{ℕ, ℤ, pos, Option, None, Some, option_map}
+use Rattle.toml.specs.Data.{Data}
+use Rattle.junction_files.specs.Document.{whole_in}
+use Rattle.junction_files.specs.declared.fault.Part.{Part}
+use Rattle.junction_files.specs.declared.fault.Part.TheVariants as part
+use Rattle.junction_files.specs.declared.fault.Key.{Key}
+use Rattle.junction_files.specs.declared.fault.Key.TheVariants as key
+use Rattle.junction_files.specs.declared.sort.Sort.{Sort}
+use Rattle.junction_files.specs.declared.sort.Sort.TheVariants.{Text, Whole, WholeOrMissing, Tables}
+
+-- the kind of value that each listed key asks for, but the version, which has a fault of its own
+abbrev pub sort_of : Part → Key → Option Sort
+sort_of part.Top key.Name = Some Text
+sort_of part.Top key.LeastCycle = Some Whole
+sort_of part.Top key.GreatestCycle = Some Whole
+sort_of part.Top key.Group = Some Tables
+sort_of part.Top key.Lane = Some Tables
+sort_of part.Top key.Conflict = Some Tables
+sort_of part.Group key.Name = Some Text
+sort_of part.Group key.MinGreen = Some Whole
+sort_of part.Group key.Amber = Some Whole
+sort_of part.Group key.RedAmber = Some Whole
+sort_of part.Group key.StartLost = Some Whole
+sort_of part.Group key.EndGain = Some Whole
+sort_of part.Lane key.Name = Some Text
+sort_of part.Lane key.Group = Some Text
+sort_of part.Lane key.Arrival = Some Whole
+sort_of part.Lane key.Saturation = Some Whole
+sort_of part.Lane key.Limit = Some WholeOrMissing
+sort_of part.Conflict key.A = Some Text
+sort_of part.Conflict key.B = Some Text
+sort_of part.Conflict key.AToB = Some Whole
+sort_of part.Conflict key.BToA = Some Whole
+sort_of _ _ = None
+
+-- the least and the greatest number of elements of a list
+abbrev pub count_of : Key → Option (ℕ × ℕ)
+count_of key.Group = Some (2, 16)
+count_of key.Lane = Some (1, 32)
+count_of key.Conflict = Some (1, 120)
+count_of _ = None
+
+-- the least and the greatest value of a whole number
+abbrev pub range_of : Data → Part → Key → Option (ℤ × ℤ)
+range_of document part.Top key.LeastCycle = Some (pos 1, pos 300)
+range_of document part.Top key.GreatestCycle = option_map (λ least. (least, pos 300)) (whole_in document key.LeastCycle)
+range_of document part.Group key.MinGreen = Some (pos 1, pos 120)
+range_of document part.Group key.Amber = Some (pos 0, pos 30)
+range_of document part.Group key.RedAmber = Some (pos 0, pos 10)
+range_of document part.Group key.StartLost = Some (pos 0, pos 10)
+range_of document part.Group key.EndGain = Some (pos 0, pos 30)
+range_of document part.Lane key.Arrival = Some (pos 0, pos 20000)
+range_of document part.Lane key.Saturation = Some (pos 1, pos 20000)
+range_of document part.Lane key.Limit = Some (pos 1, pos 1000)
+range_of document part.Conflict key.AToB = Some (pos 0, pos 60)
+range_of document part.Conflict key.BToA = Some (pos 0, pos 60)
+range_of _ _ _ = None

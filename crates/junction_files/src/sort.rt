@@ -1,0 +1,8 @@
+/// The kind of value that a key asks for.
+#[derive(Clone, Copy, Debug, PartialEq, Eq)]
+pub enum Sort {
+    Text,
+    Whole,
+    WholeOrMissing,
+    Tables,
+}

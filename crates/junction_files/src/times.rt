@@ -1,0 +1,54 @@
+ghost use Rattle.std.specs.Prelude.{◌↔◌, ◌+ℤ◌, ◌≤ℤ◌, IsTrue};
+ghost use Rattle.toml.specs.View.{view};
+ghost use Rattle.junction_files.specs.Faults.{WrongGain, WrongEffective};
+
+use crate::document::whole;
+use crate::fault::{Key, Part};
+use toml::Value;
+
+fn gains_too_much(group: &Value) -> bool
+    ensures { IsTrue result ↔ WrongGain Part.Group (view group.now) Key.EndGain }
+{
+    match (whole(group, Key::EndGain), whole(group, Key::Amber)) {
+        (Some(gain), Some(amber)) => amber < gain,
+        _ => false,
+    }
+}
+
+/// The element is a group whose end gain exceeds its amber.
+pub fn is_wrong_gain(part: Part, element: &Value, key: Key) -> bool
+    ensures { IsTrue result ↔ WrongGain part (view element.now) key }
+{
+    match (part, key) {
+        (Part::Group, Key::EndGain) => gains_too_much(element),
+        _ => false,
+    }
+}
+
+fn is_used_up(green: i64, gain: i64, lost: i64) -> bool
+    ensures { IsTrue result ↔ ((green +ℤ gain) ≤ℤ lost) }
+{
+    i128::from(green) + i128::from(gain) <= i128::from(lost)
+}
+
+fn has_no_effective(group: &Value) -> bool
+    ensures { IsTrue result ↔ WrongEffective Part.Group (view group.now) Key.StartLost }
+{
+    let Some(lost) = whole(group, Key::StartLost) else {
+        return false;
+    };
+    match (whole(group, Key::EndGain), whole(group, Key::MinGreen)) {
+        (Some(gain), Some(green)) => is_used_up(green, gain, lost),
+        _ => false,
+    }
+}
+
+/// The element is a group whose least green has no effective second.
+pub fn is_wrong_effective(part: Part, element: &Value, key: Key) -> bool
+    ensures { IsTrue result ↔ WrongEffective part (view element.now) key }
+{
+    match (part, key) {
+        (Part::Group, Key::StartLost) => has_no_effective(element),
+        _ => false,
+    }
+}
