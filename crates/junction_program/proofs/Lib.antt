@@ -1,0 +1,4 @@
+pub mod Reaching
+pub mod PairLaws
+pub mod PlanAt
+pub mod Held

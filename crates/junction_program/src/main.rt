@@ -1,0 +1,43 @@
+//! The program: runs the command that its words spell over files and standard output, and ends with
+//! the number of the status. `run` is the top call, whose contract is what the program promises.
+#![tactic(auto)]
+
+mod least_green;
+mod pair_laws;
+mod pair_search;
+mod plan_text;
+mod pushing;
+mod run;
+mod shortest;
+mod status;
+#[cfg(test)]
+mod tests;
+mod words;
+
+use crate::run::run;
+use sig_base::{FileShelf, StdSink};
+use std::process::ExitCode;
+use std::rt::Env;
+use std::{env, io};
+
+/// The words after the program's own name.
+fn words_of<R: Env + AllocGlobal>(rt: &R) -> io::Result<Vec<String>> {
+    let mut words = Vec::new(rt.alloc());
+    for word in env::args(rt)?.skip(1) {
+        words.push(word)?;
+    }
+    Ok(words)
+}
+
+fn main(rt: HostRuntime) -> ExitCode {
+    let words = match words_of(&rt) {
+        Ok(words) => words,
+        Err(error) if error.kind() == io::ErrorKind::OutOfMemory => return ExitCode::from(9),
+        Err(_) => return ExitCode::from(4),
+    };
+    let alloc = rt.alloc();
+    let mut shelf = FileShelf::new(&rt, alloc);
+    let mut out = StdSink::new(&rt);
+    let status = run(alloc, &words, &mut shelf, &mut out);
+    ExitCode::from(status.number())
+}

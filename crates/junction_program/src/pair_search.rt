@@ -1,0 +1,65 @@
+ghost use Rattle.std.specs.Prelude.{◌≡◌, ◌≤◌, ◌<◌, MatchOption, length};
+ghost use Rattle.sig_base.specs.First.{NoneBelow};
+ghost use Rattle.sig_base.specs.Fraction.{over};
+ghost use Rattle.plan_model.specs.Fits.{Fits};
+ghost use Rattle.plan_model.specs.Claims.{IsInfeasible};
+ghost use Rattle.plan_model.specs.Fitted.{junction_of, fitted_plan_of};
+ghost use Rattle.junction_program.specs.Pair.{pair_plan, IsPairFor, MeetsAt, IsShortest, NoneMeetsAt};
+
+use crate::least_green::least_green;
+use crate::pair_laws::pair_laws;
+use junction_model::Junction;
+use plan_model::{FittedPlan, Plan};
+
+/// The first second from 0 at which group 1 may start, with these greens and group 0 at second 0.
+fn first_start<'j>(
+    junction: &'j Junction,
+    cycle: u32,
+    first: u32,
+    second: u32,
+) -> Option<FittedPlan<'j>>
+    requires { length junction.now.groups ≡ 2 }
+    ensures { MatchOption result (NoneBelow (λ start. Fits junction.now (pair_plan cycle start first second)) cycle) (λ f. IsPairFor junction.now cycle first second (junction_of f) (fitted_plan_of f)) }
+{
+    for start in 0..cycle {
+        let Some(plan) = Plan::new(cycle, &[0, start], &[first, second]) else {
+            unreachable!();
+        };
+        if let Ok(fitted) = FittedPlan::new(junction, plan) {
+            return Some(fitted);
+        }
+    }
+    None
+}
+
+/// A plan of the cycle that meets the flow multiple 1.
+fn plan_at<'j>(junction: &'j Junction, cycle: u32) -> Option<FittedPlan<'j>>
+    requires two { length junction.now.groups ≡ 2 }
+    requires shortest { 1 ≤ cycle }
+    requires longest { cycle ≤ 300 }
+    ensures { MatchOption result (NoneMeetsAt junction.now cycle) (λ f. MeetsAt junction.now cycle (junction_of f) (fitted_plan_of f)) }
+{
+    pair_laws();
+    let groups = junction.groups();
+    let Some(first) = least_green(junction, &groups[0].times, 0, cycle) else {
+        return None;
+    };
+    let Some(second) = least_green(junction, &groups[1].times, 1, cycle) else {
+        return None;
+    };
+    first_start(junction, cycle, first, second)
+}
+
+/// The plan of the shortest cycle of a junction of two groups that meets the flow multiple 1, with
+/// group 0 at second 0; `None` exactly where no plan does.
+pub fn shortest_pair<'j>(junction: &'j Junction) -> Option<FittedPlan<'j>>
+    requires { length junction.now.groups ≡ 2 }
+    ensures { MatchOption result (IsInfeasible junction.now (over 1 1)) (λ f. IsShortest junction.now (junction_of f) (fitted_plan_of f)) }
+{
+    for cycle in junction.least_cycle()..junction.greatest_cycle() + 1 {
+        if let Some(plan) = plan_at(junction, cycle) {
+            return Some(plan);
+        }
+    }
+    None
+}
