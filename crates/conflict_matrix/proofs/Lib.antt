@@ -1,2 +1,5 @@
 pub mod Filled
 pub mod Numbered
+pub mod PairOrder
+pub mod PairNumbers
+pub mod PairSum

@@ -1,5 +1,5 @@
 -- What contracts see of conflicts: their table, and its conflicting pairs by number.
-pub use Rattle.conflict_matrix.specs.Pairs.{later_partners, pairs_of, lower_first}
+pub use Rattle.conflict_matrix.specs.Pairs.{later_partners, pairs_of, pair_number_of, lower_first}
 use Rattle.conflict_matrix.specs.Matrix.{Matrix}
 use Rattle.conflict_matrix.specs.declared.conflicts.Conflicts.{Conflicts}
 

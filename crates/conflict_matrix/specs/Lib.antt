@@ -1,5 +1,6 @@
 pub mod Matrix
 pub mod Pairs
+pub mod PairLaws
 pub mod Entries
 pub mod Filling
 pub mod Numbering

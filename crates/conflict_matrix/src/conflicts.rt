@@ -38,7 +38,7 @@ pub struct Conflicts {
 }
 
 impl Conflicts {
-    ghost use Rattle.conflict_matrix.specs.Conflicts.{matrix_of, pairs_of, lower_first};
+    ghost use Rattle.conflict_matrix.specs.Conflicts.{matrix_of, pairs_of, pair_number_of, lower_first};
 
     /// The conflicts that the entries tell, or the first fault. Each kind of fault is tested over the
     /// whole list before the next, in the order of `ConflictFault`'s variants.
@@ -102,7 +102,8 @@ impl Conflicts {
     pub fn pair_number(&self, i: usize, j: usize) -> Option<usize>
         requires i { i < (matrix_of self.now).groups }
         requires j { j < (matrix_of self.now).groups }
-        ensures { MatchOption result (¬ AreConflicting (matrix_of self.now) i j) (λ n. slice_get (pairs_of (matrix_of self.now)) n ≡ Some (lower_first i j)) }
+        ensures number { result ≡ pair_number_of (matrix_of self.now) i j }
+        ensures pair { MatchOption result (¬ AreConflicting (matrix_of self.now) i j) (λ n. slice_get (pairs_of (matrix_of self.now)) n ≡ Some (lower_first i j)) }
     {
         if self.cells[16 * i + j] == 255 {
             None

@@ -1,6 +1,6 @@
 //! Faults in which groups the entries name: a group that conflicts with itself, a pair that is named
 //! twice, a group that no entry names.
-ghost use Rattle.std.specs.Prelude.{◌≡◌, ◌<◌, ◌≤◌, ◌↔◌, length, IsTrue, MatchOption};
+ghost use Rattle.std.specs.Prelude.{◌<◌, ◌≤◌, ◌↔◌, length, IsTrue, MatchOption};
 ghost use Rattle.sig_base.specs.First.{NoneBelow, IsFirst};
 ghost use Rattle.conflict_matrix.specs.Entries.{IsSamePair, SelfConflictAt, RepeatedAt, LonelyAt};
 

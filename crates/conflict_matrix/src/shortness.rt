@@ -1,5 +1,5 @@
 //! Intergreens that are too short for the groups' ambers and red-ambers.
-ghost use Rattle.std.specs.Prelude.{◌<◌, ◌≤◌, ◌⊎◌, ◌↔◌, length, IsTrue, MatchOption, IsSomeAnd, IfSome, slice_get};
+ghost use Rattle.std.specs.Prelude.{◌<◌, ◌⊎◌, ◌↔◌, length, IsTrue, MatchOption, IsSomeAnd, IfSome, slice_get};
 ghost use Rattle.sig_base.specs.First.{NoneBelow, IsFirst};
 ghost use Rattle.conflict_matrix.specs.Entries.{AreEntries, IsTooShort, IsShort, IsFirstWay, ShortAt};
 ghost use Rattle.conflict_matrix.specs.declared.fault.Way.TheVariants.{AToB, BToA};

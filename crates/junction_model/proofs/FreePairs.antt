@@ -8,8 +8,7 @@ use Rattle.std.proofs.lemmas.List.FromFn.{length-range_with_len, map-range_with_
 use Rattle.std.proofs.lemmas.Option.{slice_get_within, get_or_from_slice_get}
 use Rattle.std.proofs.lemmas.Grind.{flat_map-append}
 use Rattle.conflict_matrix.specs.Matrix.{Matrix, intergreen_of}
-use Rattle.conflict_matrix.specs.Pairs.{later_partners}
-use Rattle.junction_model.specs.Covers.{free_pairs}
+use Rattle.conflict_matrix.specs.Pairs.{later_partners, free_pairs}
 
 abbrev pub is_free : ℕ × ℕ → Bool
 is_free pair = not (pair.0 == 0)

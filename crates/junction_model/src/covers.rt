@@ -1,6 +1,7 @@
 ghost use Rattle.std.specs.Prelude.{◌≡◌, ◌≤◌, ◌<◌, ◌^◌};
 ghost use Rattle.conflict_matrix.specs.Conflicts.{matrix_of};
-ghost use Rattle.junction_model.specs.Covers.{free_pairs, tree_cover_of};
+ghost use Rattle.conflict_matrix.specs.Pairs.{free_pairs};
+ghost use Rattle.junction_model.specs.Covers.{tree_cover_of};
 
 use conflict_matrix::Conflicts;
 

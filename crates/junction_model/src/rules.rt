@@ -1,7 +1,5 @@
-ghost use Rattle.std.specs.Prelude.{ℕ, ◌≡◌, ◌↔◌, ◌<◌, ◌≤◌, length, Some, IsTrue, slice_get};
-ghost use Rattle.sig_base.specs.First.{SomeBelow};
+ghost use Rattle.std.specs.Prelude.{ℕ, ◌≡◌, ◌↔◌, ◌<◌, length, Some, IsTrue};
 ghost use Rattle.sig_base.specs.Times.{AreTimes};
-ghost use Rattle.conflict_matrix.specs.Matrix.{AreConflicting, intergreen_of};
 ghost use Rattle.conflict_matrix.specs.Conflicts.{matrix_of};
 ghost use Rattle.flow_model.specs.Lane.{AreFlows};
 ghost use Rattle.junction_model.specs.Rules.{AreCycles, AreGroups, AreLanes, AreConflicts, IsGroup, IsLane, IsLongEnough, IsPairLongEnough, HasPartner};
