@@ -25,8 +25,20 @@ fn multipliers(rt: HostRuntime) -> Result<(), Fail> {
         Ratio::new(297, 200)
     );
     assert_eq!(rt;
+        lane_multiplier(&lane(300, 1800, 900)?, 17, 60),
+        Ratio::new(153, 100)
+    );
+    assert_eq!(rt;
         lane_multiplier(&lane(450, 1800, 900)?, 16, 42),
         Ratio::new(48, 35)
+    );
+    assert_eq!(rt;
+        lane_multiplier(&lane(450, 1800, 900)?, 15, 41),
+        Ratio::new(54, 41)
+    );
+    assert_eq!(rt;
+        lane_multiplier(&lane(450, 1800, 900)?, 15, 40),
+        Ratio::new(27, 20)
     );
     assert_eq!(rt;
         lane_multiplier(&lane(720, 1800, 1000)?, 8, 20),
@@ -49,6 +61,10 @@ fn degrees_of_saturation(rt: HostRuntime) -> Result<(), Fail> {
     assert_eq!(rt;
         Some(saturation(&lane(450, 1800, 900)?, 25, 60)),
         Ratio::new(3, 5)
+    );
+    assert_eq!(rt;
+        Some(saturation(&lane(750, 1800, 900)?, 25, 60)),
+        Ratio::new(1, 1)
     );
     assert_eq!(rt;
         Some(saturation(&lane(720, 1800, 1000)?, 8, 20)),
