@@ -1,0 +1,11 @@
+pub mod Order
+pub mod Orders
+pub mod Edge
+pub mod Walk
+pub mod WalkBack
+pub mod Starts
+pub mod Tree
+pub mod OrderLaws
+pub mod EdgeLaws
+pub mod WalkLaws
+pub mod TreeLaws

@@ -1,0 +1,20 @@
+-- What is true of all trees that close a cycle.
+use Rattle.std.specs.Prelude.{ℕ, List}
+use Rattle.conflict_matrix.specs.Matrix.{Matrix}
+use Rattle.constraint_cycles.specs.Order.{Refines, IsDecided, root_marks}
+use Rattle.constraint_cycles.specs.Edge.{edge_weight}
+use Rattle.constraint_cycles.specs.Walk.{Closes}
+use Rattle.constraint_cycles.specs.WalkLaws.{NeedNoLess}
+use Rattle.constraint_cycles.specs.Tree.{ClosesCycle}
+use Rattle.constraint_cycles.specs.declared.mark.Mark.{Mark}
+use Rattle.constraint_cycles.specs.declared.node.Node.{Node}
+
+-- a tree that closes a cycle has, for every order that decides each pair, a walk that closes it
+abbrev pub FullOrderLaw : Type 0
+FullOrderLaw = (m : Matrix) (needs : List ℕ) (cycle : ℕ) (nodes : List Node) (full : List Mark) → ClosesCycle m needs cycle nodes →
+    Refines (root_marks m) full → IsDecided full → (walk : List ℕ) × Closes (edge_weight m full needs cycle) walk
+
+-- it closes the cycle for greater needs too
+abbrev pub TreeNeedsLaw : Type 0
+TreeNeedsLaw = (m : Matrix) (needs more : List ℕ) (cycle : ℕ) (nodes : List Node) → NeedNoLess m needs more →
+    ClosesCycle m needs cycle nodes → ClosesCycle m more cycle nodes
