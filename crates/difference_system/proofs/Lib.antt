@@ -1,0 +1,13 @@
+pub mod Trails
+pub mod Turning
+pub mod Circuits
+pub mod Regular
+pub mod Gathering
+pub mod Settings
+pub mod Beginning
+pub mod States
+pub mod Reading
+pub mod Closing
+pub mod Passing
+pub mod Settled
+pub mod Answered

@@ -1,0 +1,9 @@
+pub mod Solution
+pub mod Systems
+pub mod SystemParts
+pub mod EdgeLists
+pub mod TrailBack
+pub mod StateParts
+pub mod Relaxing
+pub mod Trails
+pub mod Settling

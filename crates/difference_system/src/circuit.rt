@@ -1,0 +1,77 @@
+//! The closed walk that a trail ends with, from its lowest group on.
+ghost use Rattle.std.specs.Prelude.{[], ◌≡◌, ◌==◌, ◌<◌, ◌≤◌, length, drop, reverse, nat_lt, slice_index, All};
+ghost use Rattle.std.specs.List.{IsFirstBest, IsDistinct};
+ghost use Rattle.std.specs.List.Sorted.{IsPermutation};
+ghost use Rattle.constraint_cycles.specs.Edge.{Edges};
+ghost use Rattle.constraint_cycles.specs.Walk.{IsWalk, sum_of};
+ghost use Rattle.difference_system.specs.Trails.{cut};
+
+use crate::trail::Trail;
+use constraint_cycles::Walk;
+
+/// The place from which on the groups lead back to the first one.
+fn place_of(groups: &[u8], first: u8) -> usize
+    ensures within { result ≤ length groups.now }
+    ensures cut { drop result groups.now ≡ cut first (reverse groups.now) [] }
+{
+    let mut place = groups.len();
+    while place > 0 {
+        place -= 1;
+        if first == groups[place] {
+            return place;
+        }
+    }
+    place
+}
+
+fn lowest_place(groups: &[u8]) -> usize
+    requires { 0 < length groups.now }
+    ensures { IsFirstBest nat_lt groups.now (length groups.now) result }
+{
+    let mut lowest = 0;
+    for place in 1..groups.len() {
+        if groups[place] < groups[lowest] {
+            lowest = place;
+        }
+    }
+    lowest
+}
+
+/// Turns the walk until it begins with its lowest group.
+fn turn(groups: &mut [u8])
+    requires { 0 < length groups.old }
+    ensures moved { IsPermutation groups.old groups.new }
+    ensures lowest { All (λ g. slice_index groups.new 0 ≤ g) groups.new }
+    ensures sum { (edge : Edges) → sum_of edge groups.new ≡ sum_of edge groups.old }
+{
+    groups.rotate_left(lowest_place(groups));
+}
+
+/// The walk along the groups, from its lowest group on.
+fn turned(groups: &[u8]) -> Walk
+    requires walk { IsWalk groups.now }
+    ensures walk { IsWalk result }
+    ensures moved { IsPermutation groups.now result }
+    ensures lowest { All (λ g. slice_index result 0 ≤ g) result }
+    ensures sum { (edge : Edges) → sum_of edge result ≡ sum_of edge groups.now }
+{
+    let mut cells = [0; 16];
+    let walk = &mut cells[..groups.len()];
+    walk.copy_from_slice(groups);
+    turn(walk);
+    Walk::new(walk).unwrap()
+}
+
+/// The closed walk from a group of the trail to the trail's end and back, from its lowest group on.
+pub fn circuit(trail: &Trail, first: u8) -> Walk
+    requires once { IsDistinct (λ g h. g == h) trail.now }
+    requires within { All (λ g. g < 16) trail.now }
+    requires several { 2 ≤ length (cut first trail.now []) }
+    ensures walk { IsWalk result }
+    ensures once { IsDistinct (λ g h. g == h) result }
+    ensures lowest { All (λ g. slice_index result 0 ≤ g) result }
+    ensures sum { (edge : Edges) → sum_of edge result ≡ sum_of edge (cut first trail.now []) }
+{
+    let groups = trail.groups();
+    turned(&groups[place_of(groups, first)..])
+}
