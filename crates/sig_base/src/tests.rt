@@ -1,5 +1,6 @@
 mod faulty_files;
 mod files;
+mod lanes;
 mod memory;
 mod names;
 mod ratios;

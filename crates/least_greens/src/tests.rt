@@ -1,0 +1,3 @@
+mod junctions;
+mod needs;
+mod rules;
