@@ -1,4 +1,4 @@
-pub mod Reaching
+pub mod One
 pub mod PairLaws
 pub mod PlanAt
 pub mod Held

@@ -1,25 +1,26 @@
 -- Why two groups need no more than their least greens, with the first one at second 0.
-use Rattle.std.specs.Prelude.{ℕ, length, Some, ◌≡◌, slice_get}
-use Rattle.sig_base.specs.First.{NoneBelow, IsFirst}
+use Rattle.std.specs.Prelude.{ℕ, length, ◌≡◌}
+use Rattle.sig_base.specs.First.{NoneBelow}
 use Rattle.sig_base.specs.Fraction.{over}
-use Rattle.junction_model.specs.declared.group.Group.{Group}
+use Rattle.sig_base.specs.Ratio.{fraction_of}
+use Rattle.sig_base.specs.declared.ratio.Ratio.{Ratio}
+use Rattle.sig_base.specs.declared.target.Target.TheVariants.{Reach}
 use Rattle.junction_model.specs.View.{JunctionView}
 use Rattle.junction_model.specs.Rules.{IsJunction}
+use Rattle.plan_model.specs.AllLanes.{all_lanes}
 use Rattle.plan_model.specs.Fits.{Fits}
 use Rattle.plan_model.specs.Multiplier.{Meets}
-use Rattle.junction_program.specs.Pair.{pair_plan, IsEnough, NoneMeetsAt}
+use Rattle.least_greens.specs.NeedOf.{need_of}
+use Rattle.junction_program.specs.Pair.{pair_plan, NoneMeetsAt}
 
--- where no green of a group is enough, no plan of the cycle meets the multiple 1
-abbrev pub NeverEnoughLaw : Type 0
-NeverEnoughLaw = (junction : JunctionView) (group : Group) (i cycle : ℕ) → IsJunction junction → slice_get junction.groups i ≡ Some group →
-    NoneBelow (IsEnough junction group.times i cycle) 301 → NoneMeetsAt junction cycle
-
--- the least greens of both groups of a junction at a cycle
+-- the needs of both groups of a junction at a cycle, for all lanes and the multiple 1
 pub record AreLeastGreens (junction : JunctionView) (cycle first second : ℕ) : Type 0 where
   pub rules : IsJunction junction
   pub two : length junction.groups ≡ 2
-  pub of_first : (group : Group) → slice_get junction.groups 0 ≡ Some group → IsFirst (IsEnough junction group.times 0 cycle) 301 first
-  pub of_second : (group : Group) → slice_get junction.groups 1 ≡ Some group → IsFirst (IsEnough junction group.times 1 cycle) 301 second
+  pub one : Ratio
+  pub is_one : fraction_of one ≡ over 1 1
+  pub of_first : first ≡ need_of junction all_lanes (Reach one) cycle 0
+  pub of_second : second ≡ need_of junction all_lanes (Reach one) cycle 1
 
 -- where they fit with no start of the second group, no plan of the cycle meets the multiple 1
 abbrev pub NoStartLaw : Type 0

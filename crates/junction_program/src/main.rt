@@ -2,7 +2,6 @@
 //! the number of the status. `run` is the top call, whose contract is what the program promises.
 #![tactic(auto)]
 
-mod least_green;
 mod pair_laws;
 mod pair_search;
 mod plan_text;

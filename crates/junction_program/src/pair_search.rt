@@ -1,15 +1,17 @@
 ghost use Rattle.std.specs.Prelude.{◌≡◌, ◌≤◌, ◌<◌, MatchOption, length};
 ghost use Rattle.sig_base.specs.First.{NoneBelow};
 ghost use Rattle.sig_base.specs.Fraction.{over};
+ghost use Rattle.sig_base.specs.Ratio.{fraction_of};
 ghost use Rattle.plan_model.specs.Fits.{Fits};
 ghost use Rattle.plan_model.specs.Claims.{IsInfeasible};
 ghost use Rattle.plan_model.specs.Fitted.{junction_of, fitted_plan_of};
 ghost use Rattle.junction_program.specs.Pair.{pair_plan, IsPairFor, MeetsAt, IsShortest, NoneMeetsAt};
 
-use crate::least_green::least_green;
 use crate::pair_laws::pair_laws;
 use junction_model::Junction;
-use plan_model::{FittedPlan, Plan};
+use least_greens::need;
+use plan_model::{ALL_LANES, FittedPlan, Plan};
+use sig_base::{Ratio, Target};
 
 /// The first second from 0 at which group 1 may start, with these greens and group 0 at second 0.
 fn first_start<'j>(
@@ -32,6 +34,15 @@ fn first_start<'j>(
     None
 }
 
+fn one() -> Ratio
+    ensures { fraction_of result ≡ over 1 1 }
+{
+    let Some(one) = Ratio::new(1, 1) else {
+        unreachable!();
+    };
+    one
+}
+
 /// A plan of the cycle that meets the flow multiple 1.
 fn plan_at<'j>(junction: &'j Junction, cycle: u32) -> Option<FittedPlan<'j>>
     requires two { length junction.now.groups ≡ 2 }
@@ -40,13 +51,11 @@ fn plan_at<'j>(junction: &'j Junction, cycle: u32) -> Option<FittedPlan<'j>>
     ensures { MatchOption result (NoneMeetsAt junction.now cycle) (λ f. MeetsAt junction.now cycle (junction_of f) (fitted_plan_of f)) }
 {
     pair_laws();
-    let groups = junction.groups();
-    let Some(first) = least_green(junction, &groups[0].times, 0, cycle) else {
-        return None;
-    };
-    let Some(second) = least_green(junction, &groups[1].times, 1, cycle) else {
-        return None;
-    };
+    // The reader's contract tells the junction's rules.
+    let _groups = junction.groups();
+    let target = Target::Reach(one());
+    let first = need(junction, ALL_LANES, target, cycle, 0);
+    let second = need(junction, ALL_LANES, target, cycle, 1);
     first_start(junction, cycle, first, second)
 }
 

@@ -1,4 +1,4 @@
-ghost use Rattle.std.specs.Prelude.{◌≡◌, ◌++◌, ◌<◌, decimal, length, drop, OnOk, IfOk};
+ghost use Rattle.std.specs.Prelude.{◌≡◌, ◌++◌, ◌<◌, decimal, length, OnOk, IfOk};
 ghost use Rattle.plan_model.specs.Plans.{plan_of};
 ghost use Rattle.plan_model.specs.Fitted.{junction_of, fitted_plan_of};
 ghost use Rattle.junction_program.specs.Texts.{cycle_line, group_line, group_lines, plan_lines};

@@ -35,6 +35,7 @@ pub fn run<S: Shelf, K: Sink>(alloc: Global, words: &[String], shelf: &mut S, ou
     // Words of another form.
     ensures bad_words { result ≡ Status.BadWords → junction_name_in (texts words.now) ≡ None }
     ensures bad_words_always { junction_name_in (texts words.now) ≡ None → OrPushFault Status.BadWords result }
+    ensures bad_words_unfetched { junction_name_in (texts words.now) ≡ None → shelf.new ≡ shelf.old }
     ensures bad_words_line { result ≡ Status.BadWords → Appends (K.written out.old) (K.written out.new) (codes "bad words\n") }
 
     // A file that spells no junction.
@@ -44,6 +45,8 @@ pub fn run<S: Shelf, K: Sink>(alloc: Global, words: &[String], shelf: &mut S, ou
     // A junction of more than two groups.
     ensures unbuilt { result ≡ Status.Unbuilt → OfFile (texts words.now) (S.holds shelf.old) (λ bytes. IsUnbuilt bytes (K.written out.old) (K.written out.new)) }
     ensures unbuilt_always { (bytes : List ℕ) (junction : JunctionView) → IsHeld (texts words.now) (S.holds shelf.old) bytes → Spells bytes junction → 2 < length junction.groups → OrOutsideFault Status.Unbuilt result }
+    ensures unbuilt_completes { (bytes : List ℕ) (junction : JunctionView) → IsHeld (texts words.now) (S.holds shelf.old) bytes → Spells bytes junction → 2 < length junction.groups →
+        ¬ Rose (S.faults shelf.old) (S.faults shelf.new) → (result ≡ Status.Unbuilt) ⊎ (result ≡ Status.Memory) }
 
     // Faults of the shelf and the sink.
     ensures shelf_failed { result ≡ Status.ShelfFailed → ShelfHasCause (texts words.now) (S.holds shelf.old) (S.faults shelf.old) (S.faults shelf.new) }
@@ -59,9 +62,9 @@ pub fn run<S: Shelf, K: Sink>(alloc: Global, words: &[String], shelf: &mut S, ou
     ensures others { IsOfCycle result }
     ensures same { S.holds shelf.new ≡ S.holds shelf.old }
 
-    // A junction file that is held and accepted is answered, unless a count rose.
+    // A junction file that is held and accepted is answered, unless a count of faults rose.
     ensures completes { (bytes : List ℕ) (junction : JunctionView) → IsHeld (texts words.now) (S.holds shelf.old) bytes → Spells bytes junction →
-        ¬ Rose (S.faults shelf.old) (S.faults shelf.new) → ¬ Rose (S.refusals shelf.old) (S.refusals shelf.new) → ¬ Rose (K.faults out.old) (K.faults out.new) → IsAnswered result }
+        ¬ Rose (S.faults shelf.old) (S.faults shelf.new) → ¬ Rose (K.faults out.old) (K.faults out.new) → IsAnswered result }
 {
     let Some(name) = junction_name(words) else {
         return end_with(out, b"bad words\n", Status::BadWords);

@@ -62,6 +62,7 @@ fn small_junctions(rt: HostRuntime) -> Result<(), Fail> {
     let lossy = Side(5, 3, 2, 2, 1, 720, 1800, 1000);
     let common = Side(7, 3, 2, 0, 0, 450, 1800, 900);
     let busy = Side(7, 3, 2, 0, 0, 1000, 1800, 900);
+    let jammed = Side(7, 3, 2, 0, 0, 2000, 1800, 900);
     let cases = [
         // Nothing arrives on B; A needs half of the cycle, and the intergreens differ.
         (
@@ -113,6 +114,8 @@ fn small_junctions(rt: HostRuntime) -> Result<(), Fail> {
         ),
         // Each group needs more than half of the cycle.
         ((10, 300), busy, busy, (5, 5), "infeasible\n"),
+        // No green is long enough for A: more arrives than can leave.
+        ((250, 250), jammed, common, (5, 5), "infeasible\n"),
     ];
     for (cycles, a, b, intergreens, text) in cases {
         let (_, out) = cycle(alloc, pair(alloc, cycles, a, b, intergreens)?.as_bytes())?;
@@ -254,6 +257,15 @@ fn faults_of_the_outside(rt: HostRuntime) -> Result<(), Fail> {
     let (status, out) = ended(alloc, &["cycle", "K"], &mut shelf, MemorySink::new(alloc))?;
     assert_eq!(rt; status, Status::ShelfFailed);
     assert_eq!(rt; out.bytes(), b"shelf failed\n".as_slice());
+
+    // Nothing is pushed for three groups, so a sink that fails isn't met.
+    let mut many = MemoryShelf::new(alloc);
+    many.set("J", THREE_GROUPS.as_bytes())?;
+    let mut sink = MemorySink::new(alloc);
+    sink.fail_at(1, 3)?;
+    let (status, out) = ended(alloc, &["cycle", "J"], &mut many, sink)?;
+    assert_eq!(rt; status, Status::Unbuilt);
+    assert_eq!(rt; out.bytes(), b"".as_slice());
     Ok(())
 }
 

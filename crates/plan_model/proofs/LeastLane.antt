@@ -56,7 +56,7 @@ found_lesser junction p lanes n a b r below made first second either = record {
       (at_most_own junction p lanes (fraction_of b) n made own counts)) k h own;
 }
 
-counts_within : (junction : JunctionView) (p : PlanView) (k : ℕ) (own : Fraction) → multiplier_at junction p k ≡ Some own → length junction.lanes ≤ k → ⊥
+pub counts_within : (junction : JunctionView) (p : PlanView) (k : ℕ) (own : Fraction) → multiplier_at junction p k ≡ Some own → length junction.lanes ≤ k → ⊥
 counts_within junction p k own is past =
     let none : multiplier_at junction p k ≡ None = rw (slice_get_past junction.lanes k past) refl in cc
 

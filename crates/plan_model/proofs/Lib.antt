@@ -7,4 +7,4 @@ pub mod LeastLane
 pub mod Gaps
 pub mod Turned
 pub mod Served
-pub mod Reached
+pub mod AllLanes

@@ -28,7 +28,7 @@ longer_serves lane times cycle shorter longer m h =
     (λ served. omega (arith, served, more), λ served. omega (arith, served, more))
 
 -- the lane of a multiplier, and its group
-pub record IsOfLane (junction : JunctionView) (p : PlanView) (k : ℕ) (lane : Lane) (group : Group) (m : Fraction) : Type 0 where
+record IsOfLane (junction : JunctionView) (p : PlanView) (k : ℕ) (lane : Lane) (group : Group) (m : Fraction) : Type 0 where
   pub lane_there : slice_get junction.lanes k ≡ Some lane
   pub group_there : slice_get junction.groups lane.group ≡ Some group
   pub multiplier : lane_multiplier_under p lane group ≡ Some m
@@ -39,7 +39,7 @@ group_of : (junction : JunctionView) (p : PlanView) (k : ℕ) (lane : Lane) (m :
 group_of junction p k lane m at None is found = absurd (cc)
 group_of junction p k lane m at (Some group) is found = (group, record { lane_there = at; group_there = is; multiplier = found })
 
-pub lane_of : (junction : JunctionView) (p : PlanView) (k : ℕ) (m : Fraction) → (o : Option Lane) → slice_get junction.lanes k ≡ o →
+lane_of : (junction : JunctionView) (p : PlanView) (k : ℕ) (m : Fraction) → (o : Option Lane) → slice_get junction.lanes k ≡ o →
     option_and_then (λ (lane : Lane). option_and_then (lane_multiplier_under p lane) (slice_get junction.groups lane.group)) o ≡ Some m →
     (lane : Lane) × (group : Group) × IsOfLane junction p k lane group m
 lane_of junction p k m None is found = absurd (cc)
@@ -47,7 +47,7 @@ lane_of junction p k m (Some lane) is found =
     let group = group_of junction p k lane m is _ refl found in (lane, group.0, group.1)
 
 -- an arrival of 0 gives none
-pub flowing : (b : Bool) (x m : Fraction) → (if b then None else Some x) ≡ Some m → (b ≡ false) × (x ≡ m)
+flowing : (b : Bool) (x m : Fraction) → (if b then None else Some x) ≡ Some m → (b ≡ false) × (x ≡ m)
 flowing true x m found = absurd (cc)
 flowing false x m found = (refl, cc)
 

@@ -12,4 +12,4 @@ pub mod Gap
 pub mod Turning
 pub mod Shortening
 pub mod Serving
-pub mod Reaching
+pub mod AllLanes

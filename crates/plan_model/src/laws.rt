@@ -1,11 +1,14 @@
 //! What is true of all plans of all junctions, for any number of groups. These functions do nothing:
 //! each is the place where its law is proved.
+ghost use Rattle.std.specs.Prelude.{◌≡◌};
+ghost use Rattle.plan_model.specs.AllLanes.{all_lanes, AllLanesTargetLaw, AllLanesMultiplierLaw};
 ghost use Rattle.plan_model.specs.Gap.{GapLaw, SpacingLaw};
 ghost use Rattle.plan_model.specs.Longest.{LongestLaw};
-ghost use Rattle.plan_model.specs.Reaching.{ReachingLaw};
 ghost use Rattle.plan_model.specs.Serving.{LaneServingLaw, ServingLaw};
 ghost use Rattle.plan_model.specs.Shortening.{ShorteningLaw};
 ghost use Rattle.plan_model.specs.Turning.{FirstStartLaw, TurningLaw};
+
+use crate::least_multiplier::ALL_LANES;
 
 /// No green of a plan that fits fills its cycle.
 pub fn longest_law()
@@ -36,7 +39,10 @@ pub fn serving_law()
     ensures plan { ServingLaw }
 {}
 
-/// A plan reaches a multiple exactly where each group's green does.
-pub fn reaching_law()
-    ensures { ReachingLaw }
+/// Over all lanes a plan meets a target exactly where it meets, or beats, the target's ratio, and the
+/// least multiplier is the plan's.
+pub fn all_lanes_law()
+    ensures set { ALL_LANES ≡ all_lanes }
+    ensures target { AllLanesTargetLaw }
+    ensures multiplier { AllLanesMultiplierLaw }
 {}

@@ -1,4 +1,4 @@
-ghost use Rattle.std.specs.Prelude.{ℕ, ◌≡◌, ◌+◌, ◌≤◌, ◌<◌, ◌⊎◌, ◌↔◌, length, Some, None, IsTrue, IsSomeAnd, MatchOption, IsBitSet, slice_get};
+ghost use Rattle.std.specs.Prelude.{ℕ, ◌≡◌, ◌+◌, ◌≤◌, ◌<◌, ◌⊎◌, length, Some, None, IsSomeAnd, MatchOption, slice_get};
 ghost use Rattle.sig_base.specs.Fraction.{Fraction, IsAtMost, IsSameFraction};
 ghost use Rattle.sig_base.specs.Ratio.{fraction_of};
 ghost use Rattle.flow_model.specs.Lane.{effective_green};
@@ -15,12 +15,8 @@ use junction_model::Group;
 use sig_base::{LaneSet, Ratio};
 use std::cmp::Ordering;
 
-fn is_chosen(lanes: LaneSet, lane: usize) -> bool
-    requires { lane < 32 }
-    ensures { IsTrue result ↔ IsBitSet lanes.bits lane }
-{
-    (lanes.bits >> lane) & 1 == 1
-}
+/// Every lane that a junction can have.
+pub const ALL_LANES: LaneSet = LaneSet { bits: u32::MAX };
 
 fn group_at<'j>(plan: &FittedPlan<'j>, group: usize) -> &'j Group
     requires { group < group_count (junction_of plan.now) }
@@ -36,6 +32,7 @@ fn green_at(plan: &FittedPlan, group: usize) -> u32
     ensures value { result ≡ green_of (fitted_plan_of plan.now) group }
     ensures most { result ≤ 300 }
 {
+    // The reader's contract tells the junction's rules.
     let _groups = plan.junction().groups();
     plan.plan().greens()[group]
 }
@@ -69,7 +66,7 @@ fn chosen_multiplier(plan: &FittedPlan, lanes: LaneSet, lane: usize) -> Option<R
     requires few { lane < 32 }
     ensures { MatchOption result (CountsNot (junction_of plan.now) (fitted_plan_of plan.now) lanes lane) (λ r. CountsFor (junction_of plan.now) (fitted_plan_of plan.now) lanes (fraction_of r) lane) }
 {
-    if is_chosen(lanes, lane) {
+    if lanes.contains(lane) {
         own_multiplier(plan, lane)
     } else {
         None

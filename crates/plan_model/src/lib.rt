@@ -16,8 +16,8 @@ mod range;
 pub use fault::PlanFault;
 pub use fit::fits;
 pub use fitted::FittedPlan;
-pub use laws::{gap_law, longest_law, reaching_law, serving_law, shortening_law, turning_law};
-pub use least_multiplier::multiplier;
+pub use laws::{all_lanes_law, gap_law, longest_law, serving_law, shortening_law, turning_law};
+pub use least_multiplier::{ALL_LANES, multiplier};
 pub use plan::Plan;
 
 #[cfg(test)]
