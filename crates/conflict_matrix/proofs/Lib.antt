@@ -1,5 +1,6 @@
-pub mod Filled
-pub mod Numbered
+pub mod Cells
+pub mod Rows
 pub mod PairOrder
 pub mod PairNumbers
-pub mod PairSum
+pub mod FreePairs
+pub mod OneTable

@@ -1,5 +1,5 @@
 -- The number of a pair is its place among the numbered pairs, and only conflicting groups have one.
-use Rattle.std.proofs.Common.{ℕ, ◌≡◌, ◌<◌, ◌≤◌, ◌&&◌, ◌==◌, inl, inr, refl, ap, sym, ◌∙◌, subst, min, max, length, List, get_or, Bool, true, false, Option, Some, None, slice_get, MatchOption, arith}
+use Rattle.std.proofs.Common.{ℕ, ◌≡◌, ◌<◌, ◌≤◌, ◌⊎◌, ◌&&◌, ◌==◌, inl, inr, refl, ap, sym, ◌∙◌, subst, min, max, length, List, get_or, Bool, true, false, Option, Some, None, slice_get, arith}
 use Rattle.std.specs.List.{position, position_or_len}
 use Rattle.std.proofs.lemmas.Bool.{cases_lt, cases_order}
 use Rattle.std.proofs.lemmas.Bool.Decides.{nat_tests}
@@ -7,7 +7,7 @@ use Rattle.std.proofs.lemmas.Option.{none-some, slice_get_within, slice_get_read
 use Rattle.std.proofs.lemmas.List.Quantifiers.{position-Some}
 use Rattle.std.proofs.lemmas.List.Sums.{position_or_len_is}
 use Rattle.conflict_matrix.specs.Matrix.{Matrix, IsMatrix, AreConflicting}
-use Rattle.conflict_matrix.specs.Pairs.{pairs_of, pair_number_of, lower_first}
+use Rattle.conflict_matrix.specs.Pairs.{pairs_of, pair_number_of, lower_first, IsPairNumber}
 use Rattle.conflict_matrix.specs.PairLaws.{IsPair, PairLaw, PairNumberLaw, RisingPairsLaw, PairCountLaw}
 use Rattle.conflict_matrix.proofs.PairOrder.{pairs_conflict, pairs_rise, pairs_have, pairs_few, IsBefore}
 
@@ -33,7 +33,7 @@ number_at m k i j at =
     (λ n before. before_differs (get_or (pairs_of m) n (lower_first i j)) (min i j) (max i j) (rw is at (pairs_rise m n k (lower_first i j) before within)))
     (rw is (same_passes (min i j) (max i j)))
 
-pair_at : (m : Matrix) (k : ℕ) (pair : ℕ × ℕ) → slice_get (pairs_of m) k ≡ Some pair → IsPair m pair
+pub pair_at : (m : Matrix) (k : ℕ) (pair : ℕ × ℕ) → slice_get (pairs_of m) k ≡ Some pair → IsPair m pair
 pair_at m k pair at = rw (get_or_from_slice_get (pairs_of m) k pair pair at) at (pairs_conflict m k pair (slice_get_within (pairs_of m) k pair at))
 
 rising_pair : (i j : ℕ) → i ≤ j → lower_first i j ≡ (i, j)
@@ -72,15 +72,35 @@ pair_conflict m i j matrix first second pair =
       | inr upto ↦ (subst (IsPair m) (rising_pair i j upto) pair).conflicting
     ]
 
-number_cases : (m : Matrix) (i j : ℕ) (number : Option ℕ) → pair_number_of m i j ≡ number → IsMatrix m → i < m.groups → j < m.groups →
-    MatchOption number (¬ AreConflicting m i j) (λ k. slice_get (pairs_of m) k ≡ Some (lower_first i j))
-number_cases m i j None is matrix first second = λ c.
-    let has = pairs_have m (min i j) (max i j) (conflict_pair m i j matrix first second c) in
-    let number = number_at m has.0 i j (slice_get_read (pairs_of m) (length (pairs_of m)) has.0 (lower_first i j) refl has.1 (sym has.2)) in
-    none-some has.0 (sym is ∙ number)
-number_cases m i j (Some k) is matrix first second =
+-- a pair number is the number of the pair
+pub number_is : (m : Matrix) (i j k : ℕ) → pair_number_of m i j ≡ Some k → slice_get (pairs_of m) k ≡ Some (lower_first i j)
+number_is m i j k is =
     let found = position-Some (λ pair. (pair.0 == min i j) && (pair.1 == max i j)) (pairs_of m) k (lower_first i j) is in
     slice_get_read (pairs_of m) (length (pairs_of m)) k (lower_first i j) refl found.0 (sym (same_from_test (get_or (pairs_of m) k (lower_first i j)) (min i j) (max i j) found.1))
+
+-- the place of two groups that conflict
+lower_first_place : (m : Matrix) (i j : ℕ) → IsMatrix m → i < m.groups → j < m.groups → AreConflicting m i j →
+    (k : ℕ) × (slice_get (pairs_of m) k ≡ Some (lower_first i j))
+lower_first_place m i j matrix first second c =
+    let has = pairs_have m (min i j) (max i j) (conflict_pair m i j matrix first second c) in
+    (has.0, slice_get_read (pairs_of m) (length (pairs_of m)) has.0 (lower_first i j) refl has.1 (sym has.2))
+
+-- in one sense or the other
+pub pair_place : (m : Matrix) → IsMatrix m → (i j : ℕ) → i < m.groups → j < m.groups → AreConflicting m i j →
+    (k : ℕ) × ((slice_get (pairs_of m) k ≡ Some (i, j)) ⊎ (slice_get (pairs_of m) k ≡ Some (j, i)))
+pair_place m matrix i j first second c =
+    let place = lower_first_place m i j matrix first second c in
+    elim (cases_lt j i) [
+      | inl above ↦ (place.0, inr (place.1 ∙ ap Some (falling_pair i j above)))
+      | inr upto ↦ (place.0, inl (place.1 ∙ ap Some (rising_pair i j upto)))
+    ]
+
+number_cases : (m : Matrix) (i j : ℕ) (number : Option ℕ) → pair_number_of m i j ≡ number → IsMatrix m → i < m.groups → j < m.groups →
+    IsPairNumber m i j number
+number_cases m i j None is matrix first second = λ c.
+    let place = lower_first_place m i j matrix first second c in
+    none-some place.0 (sym is ∙ number_at m place.0 i j place.1)
+number_cases m i j (Some k) is matrix first second = number_is m i j k is
 
 pub pair_number_law : PairNumberLaw
 pair_number_law m i j matrix first second = number_cases m i j (pair_number_of m i j) refl matrix first second

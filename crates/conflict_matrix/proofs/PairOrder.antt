@@ -8,7 +8,7 @@ use Rattle.std.proofs.lemmas.List.Kept.{AllPairs-cons}
 use Rattle.std.proofs.lemmas.List.FromFn.{length-range_with_len, get_or-range_with_len}
 use Rattle.std.proofs.lemmas.List.Sums.{length-filter, count_by-le-length}
 use Rattle.conflict_matrix.specs.Matrix.{Matrix, intergreen_of}
-use Rattle.conflict_matrix.specs.Pairs.{later_partners, pairs_of}
+use Rattle.conflict_matrix.specs.Pairs.{later_partners, row_of, pairs_of}
 use Rattle.conflict_matrix.specs.PairLaws.{IsPair}
 
 -- by the first group, then the second
@@ -16,8 +16,8 @@ abbrev pub IsBefore : ℕ × ℕ → ℕ × ℕ → Type 0
 IsBefore p q = (p.0 < q.0) ⊎ ((p.0 ≡ q.0) × (p.1 < q.1))
 
 -- the pairs whose lower group is one of the n from group a on
-abbrev rows_from : Matrix → ℕ → ℕ → List (ℕ × ℕ)
-rows_from m a n = flat_map (λ i. map (λ j. (i, j)) (later_partners m i)) (range_with_len a n)
+abbrev pub rows_from : Matrix → ℕ → ℕ → List (ℕ × ℕ)
+rows_from m a n = flat_map (row_of m) (range_with_len a n)
 
 range_within : (b n : ℕ) → All (λ x. (b ≤ x) × (x < b + n)) (range_with_len b n)
 range_within b n k d h =
@@ -37,7 +37,7 @@ partners_conflict m i k d h =
 rows_conflict : (m : Matrix) (a n : ℕ) → All (λ q. IsPair m q × (a ≤ q.0)) (rows_from m a n)
 rows_conflict m a zero = All-nil (λ q. IsPair m q × (a ≤ q.0))
 rows_conflict m a (suc n) =
-    All-append (λ q. IsPair m q × (a ≤ q.0)) (map (λ j. (a, j)) (later_partners m a)) (rows_from m (a + 1) n)
+    All-append (λ q. IsPair m q × (a ≤ q.0)) (row_of m a) (rows_from m (a + 1) n)
     (All-map (λ q. IsPair m q × (a ≤ q.0)) (λ j. (a, j)) (later_partners m a) (λ k d h. (partners_conflict m a k d h, omega arith)))
     (λ k d h. let later = rows_conflict m (a + 1) n k d h in (later.0, omega (arith, later.1)))
 
@@ -76,16 +76,16 @@ rows_have : (m : Matrix) (a n i j : ℕ) → a ≤ i → i < a + n → IsPair m 
 rows_have m a zero i j from below pair = absurd (omega arith)
 rows_have m a (suc n) i j from below pair = elim (cases_eq a i) [
   | inl here ↦
-      rw here (Contains-append_left (map (λ k. (i, k)) (later_partners m i)) (rows_from m (i + 1) n) (i, j)
+      rw here (Contains-append_left (row_of m i) (rows_from m (i + 1) n) (i, j)
       (row_has (λ k. is_some (intergreen_of m i k)) i (i + 1) (m.groups - (i + 1)) j (omega arith) (omega arith) pair.conflicting))
   | inr apart ↦
-      Contains-append_right (map (λ k. (a, k)) (later_partners m a)) (rows_from m (a + 1) n) (i, j) (rows_have m (a + 1) n i j (omega arith) (omega arith) pair)
+      Contains-append_right (row_of m a) (rows_from m (a + 1) n) (i, j) (rows_have m (a + 1) n i j (omega arith) (omega arith) pair)
 ]
 
 fewer : (p : ℕ → Bool) (b l n : ℕ) → l ≤ n → length (filter p (range_with_len b l)) ≤ n
 fewer p b l n h = omega (arith, length-filter p (range_with_len b l), count_by-le-length p (range_with_len b l), length-range_with_len b l)
 
-rows_few : (m : Matrix) (a n : ℕ) → a + n ≡ m.groups → 2 * length (rows_from m a n) + n ≤ n * n
+pub rows_few : (m : Matrix) (a n : ℕ) → a + n ≡ m.groups → 2 * length (rows_from m a n) + n ≤ n * n
 rows_few m a zero e = omega arith
 rows_few m a (suc n) e =
     let row : length (later_partners m a) ≤ n = fewer (λ j. is_some (intergreen_of m a j)) (a + 1) (m.groups - (a + 1)) n (omega arith) in

@@ -30,6 +30,9 @@ abbrev pub IsShort : List GroupTimes → Way → Entry → Type 0
 IsShort groups AToB e = IsTooShort groups e.a e.b e.a_to_b
 IsShort groups BToA e = IsTooShort groups e.b e.a e.b_to_a
 
+abbrev pub HasShortWay : List GroupTimes → Entry → Type 0
+HasShortWay groups e = IsShort groups AToB e ⊎ IsShort groups BToA e
+
 -- faults at a place of the list
 abbrev pub SelfConflictAt : List Entry → ℕ → Type 0
 SelfConflictAt es k = IsSomeAnd (slice_get es k) IsSelfConflict
@@ -41,7 +44,7 @@ abbrev pub LonelyAt : List Entry → ℕ → Type 0
 LonelyAt es g = ¬ Any (Involves g) es
 
 abbrev pub ShortAt : List GroupTimes → List Entry → ℕ → Type 0
-ShortAt groups es k = IsSomeAnd (slice_get es k) (λ e. IsShort groups AToB e ⊎ IsShort groups BToA e)
+ShortAt groups es k = IsSomeAnd (slice_get es k) (HasShortWay groups)
 
 -- the first way of an entry in which its intergreen is short
 abbrev pub IsFirstWay : List GroupTimes → Way → Entry → Type 0

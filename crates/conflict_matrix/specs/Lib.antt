@@ -1,3 +1,4 @@
+pub mod Links
 pub mod Matrix
 pub mod Pairs
 pub mod PairLaws

@@ -4,9 +4,9 @@ use Rattle.conflict_matrix.specs.Matrix.{Matrix, AreConflicting}
 use Rattle.conflict_matrix.specs.Pairs.{pairs_of, lower_first}
 use Rattle.conflict_matrix.specs.declared.numbering.Numbering.{Numbering}
 
--- the pairs that are numbered, by number
-abbrev pub listed : Numbering → List (ℕ × ℕ)
-listed n = take n.count n.pairs
+-- the pairs, by number
+abbrev pub numbered_pairs : Numbering → List (ℕ × ℕ)
+numbered_pairs n = take n.count n.pairs
 
 -- the numbering with one more pair, whose number stands in its cells of both senses
 abbrev pub with_pair : Numbering → ℕ → ℕ → Numbering
@@ -25,12 +25,12 @@ pub record HasRoom (n : Numbering) : Type 0 where
 -- the pairs of a table are numbered
 pub record IsNumbering (m : Matrix) (n : Numbering) : Type 0 where
   pub few : n.count ≤ 120
-  pub whole : listed n ≡ pairs_of m
+  pub whole : numbered_pairs n ≡ pairs_of m
   pub numbered : (i j : ℕ) → i < 16 → j < 16 → AreConflicting m i j → slice_get (pairs_of m) (slice_index n.numbers (16 * i + j)) ≡ Some (lower_first i j)
 
 -- a pair has its number in both of its cells
 pub record HasNumber (n : Numbering) (i j : ℕ) : Type 0 where
-  pub rising : slice_get (listed n) (slice_index n.numbers (16 * i + j)) ≡ Some (i, j)
+  pub rising : slice_get (numbered_pairs n) (slice_index n.numbers (16 * i + j)) ≡ Some (i, j)
   pub falling : slice_index n.numbers (16 * j + i) ≡ slice_index n.numbers (16 * i + j)
 
 -- so have the conflicting pairs whose cell stands before a bound

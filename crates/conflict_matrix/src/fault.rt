@@ -18,3 +18,12 @@ pub enum ConflictFault {
     /// below the red-amber of the group that it goes to.
     ShortIntergreen(u32, Way),
 }
+
+/// Why links are refused. The number is the link's index from 0.
+#[derive(Clone, Copy, Debug, PartialEq, Eq)]
+pub enum LinkFault {
+    /// The link's leader is its follower.
+    SelfLink(u32),
+    /// The link's two groups stand in an earlier link, in either sense.
+    Twice(u32),
+}

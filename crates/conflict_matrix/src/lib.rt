@@ -8,13 +8,16 @@ mod entry;
 mod fault;
 mod filling;
 mod laws;
+mod link;
+mod linking;
 mod numbering;
 mod pairing;
 mod shortness;
-#[cfg(test)]
-mod tests;
+mod sizes;
 
 pub use conflicts::Conflicts;
 pub use entry::Entry;
-pub use fault::{ConflictFault, Way};
+pub use fault::{ConflictFault, LinkFault, Way};
 pub use laws::pair_laws;
+pub use link::Link;
+pub use sizes::{MOST_LINKS, MOST_PAIRS};

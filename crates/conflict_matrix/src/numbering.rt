@@ -1,18 +1,21 @@
 //! The numbers of the conflicting pairs.
-ghost use Rattle.std.specs.Prelude.{◌≡◌, ◌+◌, ◌*◌, ◌<◌, ◌≤◌, ◌++◌, map};
-ghost use Rattle.conflict_matrix.specs.Matrix.{IsMatrix};
-ghost use Rattle.conflict_matrix.specs.Pairs.{later_partners};
+ghost use Rattle.std.specs.Prelude.{◌≡◌, ◌+◌, ◌*◌, ◌<◌, ◌≤◌, ◌++◌};
+ghost use Rattle.conflict_matrix.specs.Matrix.{IsMatrix, unlinked};
+ghost use Rattle.conflict_matrix.specs.Pairs.{row_of};
+
+use crate::sizes::{CELLS, MOST_PAIRS, NO_CONFLICT};
+use sig_base::MOST_GROUPS;
 
 /// The pairs by number, and the number of a pair in the cells of both of its senses.
 #[derive(Clone, Copy, Debug)]
 pub struct Numbering {
     pub count: usize,
-    pub pairs: [(u8, u8); 120],
-    pub numbers: [u8; 256],
+    pub pairs: [(u8, u8); MOST_PAIRS],
+    pub numbers: [u8; CELLS],
 }
 
 impl Numbering {
-    ghost use Rattle.conflict_matrix.specs.Numbering.{with_pair, HasRoom, listed, IsNumberedBelow, IsNumbering};
+    ghost use Rattle.conflict_matrix.specs.Numbering.{with_pair, HasRoom, numbered_pairs, IsNumberedBelow, IsNumbering};
 
     fn push(&mut self, i: usize, j: usize)
         requires i { i < 16 }
@@ -23,35 +26,36 @@ impl Numbering {
     {
         let number = self.count as u8;
         self.pairs[self.count] = (i as u8, j as u8);
-        self.numbers[16 * i + j] = number;
-        self.numbers[16 * j + i] = number;
+        self.numbers[MOST_GROUPS * i + j] = number;
+        self.numbers[MOST_GROUPS * j + i] = number;
         self.count += 1;
     }
 
-    fn push_row(&mut self, groups: usize, cells: &[u8; 256], i: usize)
-        requires matrix { IsMatrix (record { groups = groups; cells = cells.now }) }
+    fn push_row(&mut self, groups: usize, cells: &[u8; CELLS], i: usize)
+        requires matrix { IsMatrix (unlinked groups cells.now) }
         requires i { i < groups }
         requires few { 2 * self.old.count + i * i ≤ 31 * i }
-        requires numbered { IsNumberedBelow (record { groups = groups; cells = cells.now }) self.old (16 * i) }
+        requires numbered { IsNumberedBelow (unlinked groups cells.now) self.old (16 * i) }
         ensures few { 2 * self.new.count + (i + 1) * (i + 1) ≤ 31 * (i + 1) }
-        ensures numbered { IsNumberedBelow (record { groups = groups; cells = cells.now }) self.new (16 * (i + 1)) }
-        ensures row { listed self.new ≡ listed self.old ++ map (λ j. (i, j)) (later_partners (record { groups = groups; cells = cells.now }) i) }
+        ensures numbered { IsNumberedBelow (unlinked groups cells.now) self.new (16 * (i + 1)) }
+        ensures row { numbered_pairs self.new
+            ≡ numbered_pairs self.old ++ row_of (unlinked groups cells.now) i }
     {
         for j in i + 1..groups {
-            if cells[16 * i + j] != 255 {
+            if cells[MOST_GROUPS * i + j] != NO_CONFLICT {
                 self.push(i, j);
             }
         }
     }
 
-    pub fn new(groups: usize, cells: &[u8; 256]) -> Numbering
-        requires { IsMatrix (record { groups = groups; cells = cells.now }) }
-        ensures { IsNumbering (record { groups = groups; cells = cells.now }) result }
+    pub fn new(groups: usize, cells: &[u8; CELLS]) -> Numbering
+        requires { IsMatrix (unlinked groups cells.now) }
+        ensures { IsNumbering (unlinked groups cells.now) result }
     {
         let mut numbering = Numbering {
             count: 0,
-            pairs: [(0, 0); 120],
-            numbers: [0; 256],
+            pairs: [(0, 0); MOST_PAIRS],
+            numbers: [0; CELLS],
         };
         for i in 0..groups {
             numbering.push_row(groups, cells, i);

@@ -1,14 +1,14 @@
 //! Faults in which groups the entries name: a group that conflicts with itself, a pair that is named
 //! twice, a group that no entry names.
-ghost use Rattle.std.specs.Prelude.{◌<◌, ◌≤◌, ◌↔◌, length, IsTrue, MatchOption};
-ghost use Rattle.sig_base.specs.First.{NoneBelow, IsFirst};
+ghost use Rattle.std.specs.Prelude.{◌<◌, ◌≤◌, ◌↔◌, length, IsTrue};
+ghost use Rattle.sig_base.specs.First.{FirstOrNone};
 ghost use Rattle.conflict_matrix.specs.Entries.{IsSamePair, SelfConflictAt, RepeatedAt, LonelyAt};
 
 use crate::entry::Entry;
 
 pub fn first_self_conflict(entries: &[Entry]) -> Option<u32>
     requires { length entries.now ≤ 120 }
-    ensures { MatchOption result (NoneBelow (SelfConflictAt entries.now) (length entries.now)) (λ k. IsFirst (SelfConflictAt entries.now) (length entries.now) k) }
+    ensures { FirstOrNone (SelfConflictAt entries.now) (length entries.now) result }
 {
     for (k, entry) in entries.iter().enumerate() {
         if entry.a == entry.b {
@@ -38,7 +38,7 @@ fn is_repeated(entries: &[Entry], k: usize) -> bool
 
 pub fn first_repeated(entries: &[Entry]) -> Option<u32>
     requires { length entries.now ≤ 120 }
-    ensures { MatchOption result (NoneBelow (RepeatedAt entries.now) (length entries.now)) (λ k. IsFirst (RepeatedAt entries.now) (length entries.now) k) }
+    ensures { FirstOrNone (RepeatedAt entries.now) (length entries.now) result }
 {
     for k in 0..entries.len() {
         if is_repeated(entries, k) {
@@ -57,7 +57,7 @@ fn is_lonely(group: u32, entries: &[Entry]) -> bool
 }
 
 pub fn first_lonely(groups: u32, entries: &[Entry]) -> Option<u32>
-    ensures { MatchOption result (NoneBelow (LonelyAt entries.now) groups) (λ g. IsFirst (LonelyAt entries.now) groups g) }
+    ensures { FirstOrNone (LonelyAt entries.now) groups result }
 {
     for group in 0..groups {
         if is_lonely(group, entries) {

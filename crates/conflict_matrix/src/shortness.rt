@@ -1,8 +1,7 @@
 //! Intergreens that are too short for the groups' ambers and red-ambers.
-ghost use Rattle.std.specs.Prelude.{◌<◌, ◌⊎◌, ◌↔◌, length, IsTrue, MatchOption, IsSomeAnd, IfSome, slice_get};
+ghost use Rattle.std.specs.Prelude.{◌<◌, ◌↔◌, length, IsTrue, MatchOption, IsSomeAnd, IfSome, slice_get};
 ghost use Rattle.sig_base.specs.First.{NoneBelow, IsFirst};
-ghost use Rattle.conflict_matrix.specs.Entries.{AreEntries, IsTooShort, IsShort, IsFirstWay, ShortAt};
-ghost use Rattle.conflict_matrix.specs.declared.fault.Way.TheVariants.{AToB, BToA};
+ghost use Rattle.conflict_matrix.specs.Entries.{AreEntries, IsTooShort, HasShortWay, IsFirstWay, ShortAt};
 
 use crate::entry::Entry;
 use crate::fault::Way;
@@ -19,7 +18,8 @@ fn is_too_short(groups: &[GroupTimes], from: u32, to: u32, intergreen: u32) -> b
 fn short_way(groups: &[GroupTimes], entry: &Entry) -> Option<Way>
     requires a { entry.now.a < length groups.now }
     requires b { entry.now.b < length groups.now }
-    ensures { MatchOption result (¬ (IsShort groups.now AToB entry.now ⊎ IsShort groups.now BToA entry.now)) (λ way. IsFirstWay groups.now way entry.now) }
+    ensures { MatchOption result (¬ HasShortWay groups.now entry.now)
+        (λ way. IsFirstWay groups.now way entry.now) }
 {
     if is_too_short(groups, entry.a, entry.b, entry.a_to_b) {
         Some(Way::AToB)
@@ -32,8 +32,11 @@ fn short_way(groups: &[GroupTimes], entry: &Entry) -> Option<Way>
 
 pub fn first_short(groups: &[GroupTimes], entries: &[Entry]) -> Option<(u32, Way)>
     requires { AreEntries groups.now entries.now }
-    ensures place { MatchOption result (NoneBelow (ShortAt groups.now entries.now) (length entries.now)) (λ r. IsFirst (ShortAt groups.now entries.now) (length entries.now) r.0) }
-    ensures way { IfSome result (λ r. IsSomeAnd (slice_get entries.now r.0) (IsFirstWay groups.now r.1)) }
+    ensures place { MatchOption result
+        (NoneBelow (ShortAt groups.now entries.now) (length entries.now))
+        (λ r. IsFirst (ShortAt groups.now entries.now) (length entries.now) r.0) }
+    ensures way { IfSome result (λ r.
+        IsSomeAnd (slice_get entries.now r.0) (IsFirstWay groups.now r.1)) }
 {
     for (k, entry) in entries.iter().enumerate() {
         if let Some(way) = short_way(groups, entry) {

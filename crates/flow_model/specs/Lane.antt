@@ -8,7 +8,7 @@ use Rattle.flow_model.specs.declared.lane.Lane.{Lane}
 -- flows are in vehicles per hour, the limit in per mille
 pub record AreFlows (lane : Lane) : Type 0 where
   pub arrival : lane.arrival ≤ 20000
-  pub flowing : 1 ≤ lane.saturation
+  pub some_saturation : 1 ≤ lane.saturation
   pub saturation : lane.saturation ≤ 20000
   pub allowed : 1 ≤ lane.limit
   pub limit : lane.limit ≤ 1000

@@ -1,10 +1,10 @@
 ghost use Rattle.std.specs.Prelude.{◌≡◌, ◌≤◌, ◌↔◌, IsNone, IfSome};
 ghost use Rattle.sig_base.specs.Fraction.{IsSameFraction};
 ghost use Rattle.sig_base.specs.Ratio.{fraction_of};
-ghost use Rattle.sig_base.specs.Times.{AreTimes};
+ghost use Rattle.sig_base.specs.Times.{AreTimes, IsCycle};
 ghost use Rattle.flow_model.specs.Lane.{AreFlows, effective_green, lane_multiplier_of, saturation_of};
 
-use crate::lane::Lane;
+use crate::lane::{Lane, WHOLE};
 use sig_base::{GroupTimes, Ratio};
 
 /// The effective green in seconds: the green, less the start that is lost, and the end that is gained.
@@ -23,13 +23,13 @@ pub fn lane_multiplier(lane: &Lane, effective: u32, cycle: u32) -> Option<Ratio>
     requires flows { AreFlows lane.now }
     requires some { 1 ≤ effective }
     requires effective { effective ≤ 1000 }
-    requires cycle { 1 ≤ cycle }
-    requires longest { cycle ≤ 300 }
+    requires cycle { IsCycle cycle }
     ensures none { IsNone result ↔ (lane.now.arrival ≡ 0) }
-    ensures value { IfSome result (λ r. IsSameFraction (fraction_of r) (lane_multiplier_of lane.now effective cycle)) }
+    ensures value { IfSome result (λ r.
+        IsSameFraction (fraction_of r) (lane_multiplier_of lane.now effective cycle)) }
 {
     let served = u64::from(lane.limit) * u64::from(lane.saturation) * u64::from(effective);
-    let asked = 1000 * u64::from(lane.arrival) * u64::from(cycle);
+    let asked = u64::from(WHOLE) * u64::from(lane.arrival) * u64::from(cycle);
     Ratio::new(served, asked)
 }
 
@@ -38,8 +38,7 @@ pub fn saturation(lane: &Lane, effective: u32, cycle: u32) -> Ratio
     requires flows { AreFlows lane.now }
     requires some { 1 ≤ effective }
     requires effective { effective ≤ 1000 }
-    requires cycle { 1 ≤ cycle }
-    requires longest { cycle ≤ 300 }
+    requires cycle { IsCycle cycle }
     ensures { IsSameFraction (fraction_of result) (saturation_of lane.now effective cycle) }
 {
     let arriving = u64::from(lane.arrival) * u64::from(cycle);

@@ -1,5 +1,11 @@
 use sig_base::Label;
 
+/// The greatest arrival flow, and the greatest saturation flow, in vehicles per hour.
+pub const MOST_FLOW: u32 = 20000;
+
+/// A degree of saturation of 1, in per mille.
+pub const WHOLE: u32 = 1000;
+
 /// A traffic lane, which one signal group serves.
 #[derive(Clone, Copy, Debug, PartialEq, Eq)]
 pub struct Lane {

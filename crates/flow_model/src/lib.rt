@@ -6,7 +6,4 @@ mod flow;
 mod lane;
 
 pub use flow::{effective, lane_multiplier, saturation};
-pub use lane::Lane;
-
-#[cfg(test)]
-mod tests;
+pub use lane::{Lane, MOST_FLOW, WHOLE};

@@ -1,3 +1,3 @@
-pub mod View
+pub mod Junction
 pub mod Rules
 pub mod Covers

@@ -1,7 +1,6 @@
 ghost use Rattle.std.specs.Prelude.{◌≡◌, ◌≤◌, ◌<◌, ◌^◌};
 ghost use Rattle.conflict_matrix.specs.Conflicts.{matrix_of};
-ghost use Rattle.conflict_matrix.specs.Pairs.{free_pairs};
-ghost use Rattle.junction_model.specs.Covers.{tree_cover_of};
+ghost use Rattle.conflict_matrix.specs.Pairs.{free_pairs, tree_cover_of};
 
 use conflict_matrix::Conflicts;
 
@@ -22,7 +21,8 @@ fn free_pair_count(conflicts: &Conflicts) -> usize
 /// The greatest number of nodes that the search tree of one cycle can have.
 pub fn tree_cover(conflicts: &Conflicts) -> u128
     ensures value { result ≡ tree_cover_of (matrix_of conflicts.now) }
-    ensures small { result < 2 ^ 106 }
+    ensures small { result < 2 ^ 118 }
 {
-    2u128.pow(free_pair_count(conflicts) as u32 + 1) - 1
+    let items = free_pair_count(conflicts) + conflicts.links().len();
+    2u128.pow(items as u32 + 1) - 1
 }

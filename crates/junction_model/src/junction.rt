@@ -1,6 +1,7 @@
 ghost use Rattle.std.specs.Prelude.{◌≡◌, ◌↔◌, IsTrue};
 ghost use Rattle.conflict_matrix.specs.Conflicts.{matrix_of};
 ghost use Rattle.junction_model.specs.Covers.{cover_of};
+ghost use Rattle.junction_model.specs.Junction.{junction_from};
 ghost use Rattle.junction_model.specs.Rules.{IsJunction};
 
 use crate::covers::tree_cover;
@@ -26,19 +27,20 @@ pub struct Junction {
 }
 
 impl Model for Junction {
-    ghost use Rattle.junction_model.specs.View.{JunctionView};
+    ghost use Rattle.junction_model.specs.Junction.{JunctionView, junction_from};
     ghost use Rattle.junction_model.specs.Rules.{IsJunction};
     ghost use Rattle.conflict_matrix.specs.Conflicts.{matrix_of};
 
     ghost Value = { JunctionView };
 
-    ghost view = { λ j. record { title = j.title; least_cycle = j.least_cycle; greatest_cycle = j.greatest_cycle; groups = j.groups.items; lanes = j.lanes.items; conflicts = matrix_of j.conflicts } };
+    ghost view = { λ j. junction_from j.title j.least_cycle j.greatest_cycle j.groups.items j.lanes.items (matrix_of j.conflicts) };
 
-    ghost invariant = { λ j. IsJunction (record { title = j.title; least_cycle = j.least_cycle; greatest_cycle = j.greatest_cycle; groups = j.groups.items; lanes = j.lanes.items; conflicts = matrix_of j.conflicts }) };
+    ghost invariant = { λ j. IsJunction (junction_from j.title j.least_cycle j.greatest_cycle j.groups.items j.lanes.items (matrix_of j.conflicts)) };
 }
 
 impl Junction {
-    /// Whether the parts keep all rules of a junction. The conflicts must have as many groups as the list.
+    /// Whether the parts keep all rules of a junction; `false` too where the conflicts don't have as many groups as the
+    /// list.
     pub fn accepts(
         title: &Title,
         least_cycle: u32,
@@ -47,7 +49,9 @@ impl Junction {
         lanes: &[Lane],
         conflicts: &Conflicts,
     ) -> bool
-        ensures { IsTrue result ↔ IsJunction (record { title = title.now; least_cycle = least_cycle; greatest_cycle = greatest_cycle; groups = groups.now; lanes = lanes.now; conflicts = matrix_of conflicts.now }) }
+        ensures { IsTrue result ↔
+            IsJunction (junction_from title.now least_cycle greatest_cycle
+            groups.now lanes.now (matrix_of conflicts.now)) }
     {
         are_cycles(least_cycle, greatest_cycle)
             && are_groups(groups)
@@ -64,8 +68,10 @@ impl Junction {
         lanes: Vec<Lane>,
         conflicts: Conflicts,
     ) -> Junction
-        requires { IsJunction (record { title = title; least_cycle = least_cycle; greatest_cycle = greatest_cycle; groups = groups.items; lanes = lanes.items; conflicts = matrix_of conflicts }) }
-        ensures { result ≡ record { title = title; least_cycle = least_cycle; greatest_cycle = greatest_cycle; groups = groups.items; lanes = lanes.items; conflicts = matrix_of conflicts } }
+        requires { IsJunction (junction_from title least_cycle greatest_cycle
+            groups.items lanes.items (matrix_of conflicts)) }
+        ensures { result ≡ junction_from title least_cycle greatest_cycle
+            groups.items lanes.items (matrix_of conflicts) }
     {
         Junction {
             title,
@@ -77,9 +83,16 @@ impl Junction {
         }
     }
 
+    /// What each junction keeps. This method does nothing: a caller that rests on the rules calls it.
+    pub fn rules(&self)
+        ensures { IsJunction self.now }
+    {
+        let _ = &self.title;
+    }
+
+    /// What the junction is called.
     pub fn title(&self) -> &Title
         ensures value { result.now ≡ self.now.title }
-        ensures rules { IsJunction self.now }
     {
         &self.title
     }
@@ -87,7 +100,6 @@ impl Junction {
     /// The shortest cycle that a plan may have, in seconds.
     pub fn least_cycle(&self) -> u32
         ensures value { result ≡ self.now.least_cycle }
-        ensures rules { IsJunction self.now }
     {
         self.least_cycle
     }
@@ -95,7 +107,6 @@ impl Junction {
     /// The longest cycle that a plan may have, in seconds.
     pub fn greatest_cycle(&self) -> u32
         ensures value { result ≡ self.now.greatest_cycle }
-        ensures rules { IsJunction self.now }
     {
         self.greatest_cycle
     }
@@ -103,7 +114,6 @@ impl Junction {
     /// The signal groups, in the order of the file.
     pub fn groups(&self) -> &[Group]
         ensures value { result.now ≡ self.now.groups }
-        ensures rules { IsJunction self.now }
     {
         &self.groups
     }
@@ -111,23 +121,23 @@ impl Junction {
     /// The lanes, in the order of the file.
     pub fn lanes(&self) -> &[Lane]
         ensures value { result.now ≡ self.now.lanes }
-        ensures rules { IsJunction self.now }
     {
         &self.lanes
     }
 
+    /// The table of the groups' conflicts, with their intergreens in seconds.
     pub fn conflicts(&self) -> &Conflicts
         ensures value { matrix_of result.now ≡ self.now.conflicts }
-        ensures rules { IsJunction self.now }
     {
         &self.conflicts
     }
 
     /// The greatest number of nodes that the search trees of all cycles can have together, where each
-    /// tree decides every conflicting pair without group 0 at most once on a branch.
+    /// tree decides every conflicting pair without group 0, and every link, at most once on a branch.
     pub fn covers(&self) -> u128
         ensures { result ≡ cover_of self.now }
     {
+        self.rules();
         let cycles = u128::from(self.greatest_cycle() - self.least_cycle()) + 1;
         cycles * tree_cover(self.conflicts())
     }

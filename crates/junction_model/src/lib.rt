@@ -10,6 +10,3 @@ mod rules;
 
 pub use group::Group;
 pub use junction::Junction;
-
-#[cfg(test)]
-mod tests;

@@ -1,29 +1,33 @@
-ghost use Rattle.std.specs.Prelude.{ℕ, ◌≡◌, ◌↔◌, ◌<◌, length, Some, IsTrue};
+ghost use Rattle.std.specs.Prelude.{◌≡◌, ◌↔◌, ◌<◌, length, Some, IsTrue};
 ghost use Rattle.sig_base.specs.Times.{AreTimes};
 ghost use Rattle.conflict_matrix.specs.Conflicts.{matrix_of};
 ghost use Rattle.flow_model.specs.Lane.{AreFlows};
-ghost use Rattle.junction_model.specs.Rules.{AreCycles, AreGroups, AreLanes, AreConflicts, IsGroup, IsLane, IsLongEnough, IsPairLongEnough, HasPartner};
+ghost use Rattle.junction_model.specs.Rules.{AreCycles, AreGroups, AreLanes, AreConflicts, IsGroup, IsLane, IsLongEnough, IsPairLongEnough, AreLongEnoughFrom, AreLongEnough, HasPartner, ArePartnered};
 
 use crate::group::Group;
 use crate::labelled::are_distinct;
 use conflict_matrix::Conflicts;
-use flow_model::Lane;
-use sig_base::GroupTimes;
+use flow_model::{Lane, MOST_FLOW, WHOLE};
+use sig_base::{
+    GroupTimes, LONGEST_AMBER, LONGEST_CYCLE, LONGEST_GREEN, LONGEST_MIN_GREEN, LONGEST_RED_AMBER,
+    LONGEST_START_LOST, MOST_GROUPS, MOST_LANES,
+};
 
 pub fn are_cycles(least: u32, greatest: u32) -> bool
     ensures { IsTrue result ↔ AreCycles least greatest }
 {
-    1 <= least && least <= greatest && greatest <= 300
+    1 <= least && least <= greatest && greatest <= LONGEST_CYCLE
 }
 
 fn are_times(times: &GroupTimes) -> bool
     ensures { IsTrue result ↔ AreTimes times.now }
 {
     times.min_green >= 1
-        && times.min_green <= 120
-        && times.amber <= 30
-        && times.red_amber <= 10
-        && (times.start_lost <= 10 && times.end_gain <= 30)
+        && times.min_green <= LONGEST_MIN_GREEN
+        && times.amber <= LONGEST_AMBER
+        && times.red_amber <= LONGEST_RED_AMBER
+        && (times.start_lost <= LONGEST_START_LOST && times.end_gain <= LONGEST_AMBER)
+        && (times.max_green >= 1 && times.max_green <= LONGEST_GREEN)
 }
 
 fn is_group(group: &Group) -> bool
@@ -33,22 +37,27 @@ fn is_group(group: &Group) -> bool
     are_times(times)
         && times.end_gain <= times.amber
         && u64::from(times.start_lost) < u64::from(times.min_green) + u64::from(times.end_gain)
+        && times.min_green <= times.max_green
+        && times.max_green == LONGEST_GREEN
 }
 
 pub fn are_groups(groups: &[Group]) -> bool
     ensures { IsTrue result ↔ AreGroups groups.now }
 {
-    groups.len() >= 2 && groups.len() <= 16 && groups.iter().all(is_group) && are_distinct(groups)
+    groups.len() >= 2
+        && groups.len() <= MOST_GROUPS
+        && groups.iter().all(is_group)
+        && are_distinct(groups)
 }
 
 fn are_flows(lane: &Lane) -> bool
     ensures { IsTrue result ↔ AreFlows lane.now }
 {
-    lane.arrival <= 20000
+    lane.arrival <= MOST_FLOW
         && lane.saturation >= 1
-        && lane.saturation <= 20000
+        && lane.saturation <= MOST_FLOW
         && lane.limit >= 1
-        && lane.limit <= 1000
+        && lane.limit <= WHOLE
 }
 
 fn is_lane(groups: usize, lane: &Lane) -> bool
@@ -61,7 +70,7 @@ pub fn are_lanes(groups: usize, lanes: &[Lane]) -> bool
     ensures { IsTrue result ↔ AreLanes groups lanes.now }
 {
     !lanes.is_empty()
-        && lanes.len() <= 32
+        && lanes.len() <= MOST_LANES
         && lanes.iter().all(|lane| is_lane(groups, lane))
         && are_distinct(lanes)
         && lanes.iter().any(|lane| lane.arrival >= 1)
@@ -80,7 +89,7 @@ fn has_partner(conflicts: &Conflicts, i: usize) -> bool
 }
 
 fn each_has_partner(conflicts: &Conflicts) -> bool
-    ensures { IsTrue result ↔ ((i : ℕ) → i < (matrix_of conflicts.now).groups → HasPartner (matrix_of conflicts.now) i) }
+    ensures { IsTrue result ↔ ArePartnered (matrix_of conflicts.now) }
 {
     for i in 0..conflicts.groups() {
         if !has_partner(conflicts, i) {
@@ -111,7 +120,7 @@ fn is_pair_long_enough(groups: &[Group], conflicts: &Conflicts, i: usize, j: usi
 fn are_long_enough_from(groups: &[Group], conflicts: &Conflicts, i: usize) -> bool
     requires same { (matrix_of conflicts.now).groups ≡ length groups.now }
     requires i { i < length groups.now }
-    ensures { IsTrue result ↔ ((j : ℕ) → j < length groups.now → IsPairLongEnough groups.now (matrix_of conflicts.now) i j) }
+    ensures { IsTrue result ↔ AreLongEnoughFrom groups.now (matrix_of conflicts.now) i }
 {
     for j in 0..groups.len() {
         if !is_pair_long_enough(groups, conflicts, i, j) {
@@ -123,7 +132,7 @@ fn are_long_enough_from(groups: &[Group], conflicts: &Conflicts, i: usize) -> bo
 
 fn are_long_enough(groups: &[Group], conflicts: &Conflicts) -> bool
     requires { (matrix_of conflicts.now).groups ≡ length groups.now }
-    ensures { IsTrue result ↔ ((i : ℕ) → i < length groups.now → (j : ℕ) → j < length groups.now → IsPairLongEnough groups.now (matrix_of conflicts.now) i j) }
+    ensures { IsTrue result ↔ AreLongEnough groups.now (matrix_of conflicts.now) }
 {
     for i in 0..groups.len() {
         if !are_long_enough_from(groups, conflicts, i) {
@@ -137,6 +146,7 @@ pub fn are_conflicts(groups: &[Group], conflicts: &Conflicts) -> bool
     ensures { IsTrue result ↔ AreConflicts groups.now (matrix_of conflicts.now) }
 {
     conflicts.groups() == groups.len()
+        && conflicts.links().is_empty()
         && each_has_partner(conflicts)
         && are_long_enough(groups, conflicts)
 }

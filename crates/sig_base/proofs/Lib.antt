@@ -1,4 +1,7 @@
 pub mod Lowest
 pub mod WriteLog
-pub mod Written
-pub mod Always
+pub mod WriteWhole
+pub mod Answers
+pub mod Fraction
+pub mod Option
+pub mod Utf8

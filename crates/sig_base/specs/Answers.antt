@@ -1,6 +1,6 @@
 -- The counts of a shelf and a sink after an answer.
 use Rattle.std.specs.Prelude.{ℕ, Result, Ok, Err}
-use Rattle.sig_base.specs.Rose.{counted_on}
+use Rattle.sig_base.specs.FaultCount.{counted_on}
 use Rattle.sig_base.specs.declared.shelf.ShelfFault.{ShelfFault}
 use Rattle.sig_base.specs.declared.shelf.ShelfFault.TheVariants.{Failed, TooLong, Memory}
 use Rattle.sig_base.specs.declared.sink.SinkFault.{SinkFault}

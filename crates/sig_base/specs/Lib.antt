@@ -3,10 +3,10 @@ pub mod Times
 pub mod Fraction
 pub mod Ratio
 pub mod Text
-pub mod Padded
-pub mod LabelBack
-pub mod TitleBack
-pub mod Rose
+pub mod Padding
+pub mod Label
+pub mod Title
+pub mod FaultCount
 pub mod Shelf
 pub mod Sink
 pub mod Answers

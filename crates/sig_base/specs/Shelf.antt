@@ -4,7 +4,7 @@ use Rattle.std.specs.Ordering.{nat_cmp}
 use Rattle.std.specs.Cmp.Lexicographic.{slice_cmp}
 use Rattle.std.specs.FinMap as finite
 use Rattle.std.specs.FinMap.{FinMap}
-use Rattle.sig_base.specs.Rose.{Rose}
+use Rattle.sig_base.specs.FaultCount.{Rose}
 use Rattle.sig_base.specs.declared.shelf.ShelfFault.{ShelfFault}
 use Rattle.sig_base.specs.declared.shelf.ShelfFault.TheVariants.{Failed, TooLong, Memory}
 
@@ -22,21 +22,21 @@ with_held m name bytes = finite.insert m name bytes
 
 -- the shelf tells what it holds, and doesn't hold the name
 abbrev pub Lacks : Option Holdings → List ℕ → Type 0
-Lacks told name = IsSomeAnd told (λ m. held m name ≡ None)
+Lacks holdings name = IsSomeAnd holdings (λ m. held m name ≡ None)
 
 -- the shelf tells what it holds, and the name's bytes are more than the limit
 abbrev pub Exceeds : Option Holdings → List ℕ → ℕ → Type 0
-Exceeds told name limit = IsSomeAnd told (λ m. IsSomeAnd (held m name) (λ bytes. limit < length bytes))
+Exceeds holdings name limit = IsSomeAnd holdings (λ m. IsSomeAnd (held m name) (λ bytes. limit < length bytes))
 
 -- when each refusal of a fetch comes, by the two counts before and after
-pub record FetchCause {T : Type 0} (told : Option Holdings) (name : List ℕ) (limit : ℕ)
+pub record FetchCause {T : Type 0} (holdings : Option Holdings) (name : List ℕ) (limit : ℕ)
     (faults_old faults_new refusals_old refusals_new : ℕ) (result : Result T ShelfFault) : Type 0 where
   pub faults_later : faults_old ≤ faults_new
   pub refusals_later : refusals_old ≤ refusals_new
-  pub failed : IsErrOf result Failed → Rose faults_old faults_new ⊎ Lacks told name
+  pub failed : IsErrOf result Failed → Rose faults_old faults_new ⊎ Lacks holdings name
   pub too_long : IsErrOf result TooLong → Rose refusals_old refusals_new
-  pub exceeds : IsErrOf result TooLong → IfSome told (λ _. Exceeds told name limit × (faults_new ≡ faults_old))
-  pub refused : Exceeds told name limit → ¬ Rose faults_old faults_new → IsErrOf result TooLong ⊎ IsErrOf result Memory
+  pub exceeds : IsErrOf result TooLong → IfSome holdings (λ _. Exceeds holdings name limit × (faults_new ≡ faults_old))
+  pub refused : Exceeds holdings name limit → ¬ Rose faults_old faults_new → IsErrOf result TooLong ⊎ IsErrOf result Memory
 
 -- when a put is refused
 pub record PutCause {T : Type 0} (faults_old faults_new : ℕ) (result : Result T ShelfFault) : Type 0 where

@@ -1,7 +1,7 @@
 -- What a push does to the bytes written, where the sink tells them, and the cause of its fault.
 use Rattle.std.specs.Prelude.{ℕ, List, take, Option, Result, ◌≤◌, OnOk, IsErrOf}
 use Rattle.std.specs.Io.KnownBytes.{Appends, Keeps}
-use Rattle.sig_base.specs.Rose.{Rose}
+use Rattle.sig_base.specs.FaultCount.{Rose}
 use Rattle.sig_base.specs.declared.sink.SinkFault.{SinkFault}
 use Rattle.sig_base.specs.declared.sink.SinkFault.TheVariants.{Failed, Memory}
 

@@ -1,5 +1,5 @@
 ghost use Rattle.std.specs.Prelude.{◌≡◌};
-ghost use Rattle.sig_base.specs.Rose.{counted_on};
+ghost use Rattle.sig_base.specs.FaultCount.{counted_on};
 ghost use Rattle.sig_base.specs.CallNumber.{next_number};
 
 /// Counts one more call, and gives its number.

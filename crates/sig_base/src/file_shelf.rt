@@ -59,7 +59,8 @@ impl<'r, R: Files> Shelf for FileShelf<'r, R> {
 
     fn fetch(&mut self, alloc: Global, name: &str, limit: u32) -> Result<Vec<u8>, ShelfFault>
         ensures short { IfOk result (λ v. length v.items ≤ limit) }
-        ensures cause { FetchCause None name.now limit self.old.faults self.new.faults self.old.refusals self.new.refusals result }
+        ensures cause { FetchCause None name.now limit
+            self.old.faults self.new.faults self.old.refusals self.new.refusals result }
         ensures faults { self.new.faults ≡ faults_after result self.old.faults }
         ensures refusals { self.new.refusals ≡ refusals_after result self.old.refusals }
     {

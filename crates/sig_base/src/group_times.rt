@@ -11,4 +11,6 @@ pub struct GroupTimes {
     pub start_lost: u32,
     /// The part of the amber in which traffic still flows.
     pub end_gain: u32,
+    /// The longest green that may be shown.
+    pub max_green: u32,
 }

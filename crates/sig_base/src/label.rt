@@ -17,7 +17,7 @@ pub struct Label {
 impl Model for Label {
     ghost use Rattle.std.specs.Prelude.{ℕ, List, take, length};
     ghost use Rattle.sig_base.specs.Text.{IsLabel};
-    ghost use Rattle.sig_base.specs.Padded.{IsPadded, padded_to};
+    ghost use Rattle.sig_base.specs.Padding.{IsPadded, padded_to};
 
     ghost Value = { List ℕ };
 
@@ -27,7 +27,7 @@ impl Model for Label {
 
     ghost inverse = { λ name. record { bytes = padded_to 16 name; len = length name } };
 
-    ghost use Rattle.sig_base.specs.LabelBack.{fields_back};
+    ghost use Rattle.sig_base.specs.Label.{fields_back};
 
     ghost inverse_ok = { λ a h. fields_back a h.1 };
 }
@@ -49,6 +49,7 @@ impl Label {
         })
     }
 
+    /// The 1 to 16 bytes of the name.
     pub fn bytes(&self) -> &[u8]
         ensures value { result.now ≡ self.now }
         ensures label { IsLabel self.now }

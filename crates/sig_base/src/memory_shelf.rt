@@ -1,9 +1,9 @@
-ghost use Rattle.std.specs.Prelude.{◌≡◌, ◌↔◌, Some, IsTrue, IsErrOf, OnOk, OnErr, IfOk, length, ◌≤◌, None, Err, if◌then◌else◌};
+ghost use Rattle.std.specs.Prelude.{◌≡◌, ◌↔◌, Some, IsTrue, IsErrOf, OnOk, OnErr, IfOk, length, ◌≤◌, None, Err};
 ghost use Rattle.std.specs.Option.{option_map};
 ghost use Rattle.sig_base.specs.Answers.{refusals_after};
 ghost use Rattle.sig_base.specs.MemoryShelf.{empty_shelf, fails_next, is_failing, with_bytes, with_failing};
 ghost use Rattle.sig_base.specs.CallNumber.{next_number};
-ghost use Rattle.sig_base.specs.Rose.{counted_on};
+ghost use Rattle.sig_base.specs.FaultCount.{counted_if, counted_on};
 ghost use Rattle.sig_base.specs.Shelf.{held, with_held, Exceeds, FetchCause, PutCause};
 ghost use Rattle.sig_base.specs.declared.shelf.ShelfFault.TheVariants.{Failed, TooLong};
 
@@ -15,7 +15,8 @@ use std::alloc::Global;
 use std::collections::VecDeque;
 use std::marker::Model;
 
-/// A shelf in memory, which tells what it holds. It fails where it was told to.
+/// A shelf in memory, which tells what it holds. It fails at the calls that `fail_at` names. One that
+/// answers `Memory` has used up its number: it is counted, and nothing else changes.
 #[derive(Drop)]
 pub struct MemoryShelf {
     alloc: Global,
@@ -66,10 +67,8 @@ impl MemoryShelf {
         ensures ok { OnOk result (self.new ≡ with_failing self.old call) }
         ensures err { OnErr result (self.new ≡ self.old) }
     {
-        match self.failing.push(call) {
-            Ok(()) => Ok(()),
-            Err(_) => Err(NoMemory),
-        }
+        self.failing.push(call)?;
+        Ok(())
     }
 
     /// The bytes of a name; `None` where it isn't held.
@@ -94,14 +93,17 @@ impl Shelf for MemoryShelf {
         ensures same { self.new.holds ≡ self.old.holds }
         ensures short { IfOk result (λ v. length v.items ≤ limit) }
         ensures bytes { IfOk result (λ v. held self.old.holds name.now ≡ Some v.items) }
-        ensures cause { FetchCause (Some self.old.holds) name.now limit self.old.faults self.new.faults self.old.refusals self.new.refusals result }
+        ensures cause { FetchCause (Some self.old.holds) name.now limit
+            self.old.faults self.new.faults self.old.refusals self.new.refusals result }
         ensures calls { self.new.calls ≡ counted_on self.old.calls }
         ensures failing { self.new.failing ≡ self.old.failing }
-        ensures faults { self.new.faults ≡ (if fails_next self.old then counted_on self.old.faults else self.old.faults) }
+        ensures faults { self.new.faults ≡ counted_if (fails_next self.old) self.old.faults }
         ensures refusals { self.new.refusals ≡ refusals_after result self.old.refusals }
         ensures fails { IsTrue (fails_next self.old) → result ≡ Err Failed }
-        ensures absent { ¬ IsTrue (fails_next self.old) → IsErrOf result Failed ↔ (held self.old.holds name.now ≡ None) }
-        ensures too_long { ¬ IsTrue (fails_next self.old) → IsErrOf result TooLong ↔ Exceeds (Some self.old.holds) name.now limit }
+        ensures absent { ¬ IsTrue (fails_next self.old) →
+            IsErrOf result Failed ↔ (held self.old.holds name.now ≡ None) }
+        ensures too_long { ¬ IsTrue (fails_next self.old) →
+            IsErrOf result TooLong ↔ Exceeds (Some self.old.holds) name.now limit }
     {
         if is_next_failing(&mut self.calls, &self.failing, &mut self.faults) {
             return Err(ShelfFault::Failed);
@@ -113,10 +115,7 @@ impl Shelf for MemoryShelf {
             self.refusals = self.refusals.saturating_add(1);
             return Err(ShelfFault::TooLong);
         }
-        match bytes.to_vec(alloc) {
-            Ok(copied) => Ok(copied),
-            Err(_) => Err(ShelfFault::Memory),
-        }
+        Ok(bytes.to_vec(alloc)?)
     }
 
     fn put(&mut self, name: &str, bytes: &[u8]) -> Result<(), ShelfFault>
@@ -126,16 +125,14 @@ impl Shelf for MemoryShelf {
         ensures cause { PutCause self.old.faults self.new.faults result }
         ensures calls { self.new.calls ≡ counted_on self.old.calls }
         ensures failing { self.new.failing ≡ self.old.failing }
-        ensures faults { self.new.faults ≡ (if fails_next self.old then counted_on self.old.faults else self.old.faults) }
+        ensures faults { self.new.faults ≡ counted_if (fails_next self.old) self.old.faults }
         ensures failed { IsErrOf result Failed ↔ IsTrue (fails_next self.old) }
     {
         if is_next_failing(&mut self.calls, &self.failing, &mut self.faults) {
             return Err(ShelfFault::Failed);
         }
-        match write(self.alloc, &mut self.log, name, bytes) {
-            Ok(()) => Ok(()),
-            Err(_) => Err(ShelfFault::Memory),
-        }
+        write(self.alloc, &mut self.log, name, bytes)?;
+        Ok(())
     }
 }
 
@@ -143,7 +140,7 @@ impl Shelf for MemoryShelf {
 fn is_next_failing(calls: &mut u64, failing: &[u64], faults: &mut u64) -> bool
     ensures value { result ≡ is_failing failing.now (next_number calls.old) }
     ensures calls { calls.new ≡ counted_on calls.old }
-    ensures faults { faults.new ≡ (if result then counted_on faults.old else faults.old) }
+    ensures faults { faults.new ≡ counted_if result faults.old }
     ensures later { faults.old ≤ faults.new }
 {
     let Some(number) = take_number(calls) else {

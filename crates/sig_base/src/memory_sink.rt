@@ -1,8 +1,8 @@
-ghost use Rattle.std.specs.Prelude.{◌≡◌, ◌++◌, take, None, Some, Err, IsErrOf, OnOk, OnErr, is_some, if◌then◌else◌};
+ghost use Rattle.std.specs.Prelude.{◌≡◌, ◌++◌, take, None, Some, Err, IsErrOf, OnOk, OnErr, is_some};
 ghost use Rattle.std.specs.Option.{IsSomeAnd};
 ghost use Rattle.sig_base.specs.CallNumber.{next_number};
 ghost use Rattle.sig_base.specs.MemorySink.{empty_sink, kept_of, kept_by, next_kept, with_failing};
-ghost use Rattle.sig_base.specs.Rose.{counted_on};
+ghost use Rattle.sig_base.specs.FaultCount.{counted_if, counted_on};
 ghost use Rattle.sig_base.specs.Sink.{Pushes};
 ghost use Rattle.sig_base.specs.declared.sink.SinkFault.TheVariants.{Failed, Memory};
 
@@ -13,7 +13,7 @@ use std::alloc::Global;
 use std::collections::VecDeque;
 use std::marker::Model;
 
-/// A sink in memory, which tells what was written. It fails where it was told to.
+/// A sink in memory, which tells what was written. It fails at the pushes that `fail_at` names.
 #[derive(Drop)]
 pub struct MemorySink {
     bytes: Vec<u8>,
@@ -50,10 +50,8 @@ impl MemorySink {
         ensures ok { OnOk result (self.new ≡ with_failing self.old push kept) }
         ensures err { OnErr result (self.new ≡ self.old) }
     {
-        match self.failing.push_front((push, kept)) {
-            Ok(()) => Ok(()),
-            Err(_) => Err(NoMemory),
-        }
+        self.failing.push_front((push, kept))?;
+        Ok(())
     }
 
     /// What was written.
@@ -70,22 +68,24 @@ impl Sink for MemorySink {
     ghost faults = { λ s. s.faults };
 
     fn push(&mut self, bytes: &[u8]) -> Result<(), SinkFault>
-        ensures pushes { Pushes (Some self.old.bytes) (Some self.new.bytes) bytes.now self.old.faults self.new.faults result }
+        ensures pushes { Pushes (Some self.old.bytes) (Some self.new.bytes) bytes.now
+            self.old.faults self.new.faults result }
         ensures count { self.new.pushes ≡ counted_on self.old.pushes }
         ensures failing { self.new.failing ≡ self.old.failing }
-        ensures faults { self.new.faults ≡ (if is_some (next_kept self.old) then counted_on self.old.faults else self.old.faults) }
+        ensures faults { self.new.faults
+            ≡ counted_if (is_some (next_kept self.old)) self.old.faults }
         ensures ok { OnOk result (next_kept self.old ≡ None) }
-        ensures failed { IsErrOf result Failed → IsSomeAnd (next_kept self.old) (λ kept. self.new.bytes ≡ self.old.bytes ++ take kept bytes.now) }
+        ensures failed { IsErrOf result Failed →
+            IsSomeAnd (next_kept self.old) (λ kept.
+            self.new.bytes ≡ self.old.bytes ++ take kept bytes.now) }
     {
         let Some(kept) = take_kept(&mut self.pushes, &self.failing) else {
             return append(&mut self.bytes, bytes);
         };
         self.faults = self.faults.saturating_add(1);
         let kept = kept.min(bytes.len() as u64) as usize;
-        match append(&mut self.bytes, &bytes[..kept]) {
-            Ok(()) => Err(SinkFault::Failed),
-            Err(fault) => Err(fault),
-        }
+        append(&mut self.bytes, &bytes[..kept])?;
+        Err(SinkFault::Failed)
     }
 }
 
@@ -117,8 +117,6 @@ fn append(written: &mut Vec<u8>, bytes: &[u8]) -> Result<(), SinkFault>
     ensures err { OnErr result (written.new.items ≡ written.old.items) }
     ensures memory { OnErr result (result ≡ Err Memory) }
 {
-    match written.extend_from_slice(bytes) {
-        Ok(()) => Ok(()),
-        Err(_) => Err(SinkFault::Memory),
-    }
+    written.extend_from_slice(bytes)?;
+    Ok(())
 }

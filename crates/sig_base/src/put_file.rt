@@ -75,10 +75,7 @@ fn place<R: Files>(
 ) -> Result<(), ShelfFault>
     ensures { result ≢ Err TooLong }
 {
-    let (sibling, mut file) = match open_sibling(rt, alloc, name) {
-        Ok(opened) => opened,
-        Err(fault) => return Err(fault),
-    };
+    let (sibling, mut file) = open_sibling(rt, alloc, name)?;
     let is_written = fill(&mut file, permissions, bytes);
     if is_written && fs::rename(rt, sibling.as_str(), name).is_ok() {
         return Ok(());

@@ -15,10 +15,11 @@ pub struct Ratio {
 impl Ratio {
     ghost use Rattle.sig_base.specs.Ratio.{fraction_of};
 
-    /// The value of `num / den`, in lowest terms; `None` where `den` is 0.
+    /// The value of `num / den`, in lowest terms; `None` where `den` is 0. Parts in lowest terms are kept.
     pub fn new(num: u64, den: u64) -> Option<Ratio>
         ensures none { IsNone result ↔ (den ≡ 0) }
         ensures value { IfSome result (λ r. IsSameFraction (fraction_of r) (over num den)) }
+        ensures kept { IsLowest num den → IfSome result (λ r. fraction_of r ≡ over num den) }
     {
         if den == 0 {
             return None;
@@ -30,12 +31,14 @@ impl Ratio {
         })
     }
 
+    /// The numerator, in lowest terms.
     pub fn num(&self) -> u64
         ensures { result ≡ (fraction_of self.now).num }
     {
         self.num
     }
 
+    /// The denominator, in lowest terms: at least 1.
     pub fn den(&self) -> u64
         ensures { result ≡ (fraction_of self.now).den }
     {

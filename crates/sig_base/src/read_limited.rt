@@ -2,6 +2,7 @@ ghost use Rattle.std.specs.Prelude.{◌≡◌, ◌+◌, ◌≤◌, ◌<◌, List
 ghost use Rattle.std.specs.Io.KnownBytes.{Consumes};
 ghost use Rattle.sig_base.specs.declared.shelf.ShelfFault.TheVariants.{TooLong};
 
+use crate::retry::read_once;
 use crate::shelf::ShelfFault;
 use std::alloc::Global;
 use std::io::Read;
@@ -14,16 +15,19 @@ pub fn read_limited<I: Read>(
     limit: u32,
 ) -> Result<Vec<u8>, ShelfFault>
     ensures short { IfOk result (λ v. length v.items ≤ limit) }
-    ensures whole { IfOk result (λ v. IfSome (I.remaining input.old) (λ bytes. v.items ≡ bytes)) }
-    ensures too_long { IsErrOf result TooLong → IfSome (I.remaining input.old) (λ bytes. limit < length bytes) }
-    ensures most { (taken : List ℕ) × Consumes (I.remaining input.old) (I.remaining input.new) taken × (length taken ≤ limit + 1) }
+    ensures whole { IfOk result (λ v.
+        IfSome (I.remaining input.old) (λ bytes. v.items ≡ bytes)) }
+    ensures too_long { IsErrOf result TooLong →
+        IfSome (I.remaining input.old) (λ bytes. limit < length bytes) }
+    ensures most { (taken : List ℕ) × Consumes (I.remaining input.old) (I.remaining input.new) taken
+        × (length taken ≤ limit + 1) }
 {
     let mut bytes = Vec::new(alloc);
     let mut buffer = [0u8; 4096];
     let most = limit as usize + 1;
     'turns: for _turn in 0..most {
         let room = (most - bytes.len()).min(buffer.len());
-        let Ok(count) = input.read(&mut buffer[..room]) else {
+        let Ok(count) = read_once(input, &mut buffer[..room]) else {
             return Err(ShelfFault::Failed);
         };
         if count == 0 {

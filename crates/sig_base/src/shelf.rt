@@ -1,6 +1,8 @@
 ghost use Rattle.std.specs.Prelude.{ℕ, Option, ◌≡◌, ◌≤◌, length, IfOk, IfSome, OnOk, OnErr, Some};
+ghost use Rattle.sig_base.specs.declared.shelf.ShelfFault.TheVariants.{Memory};
 
-use std::alloc::Global;
+use crate::no_memory::NoMemory;
+use std::alloc::{AllocError, Global};
 
 /// Why a shelf gave or took no bytes.
 #[derive(Clone, Copy, Debug, PartialEq, Eq)]
@@ -11,6 +13,22 @@ pub enum ShelfFault {
     TooLong,
     /// No memory could be had.
     Memory,
+}
+
+impl From<NoMemory> for ShelfFault {
+    ghost from_gives = { λ _ fault. fault ≡ Memory };
+
+    fn from(_no_memory: NoMemory) -> ShelfFault {
+        ShelfFault::Memory
+    }
+}
+
+impl From<AllocError> for ShelfFault {
+    ghost from_gives = { λ _ fault. fault ≡ Memory };
+
+    fn from(_error: AllocError) -> ShelfFault {
+        ShelfFault::Memory
+    }
 }
 
 /// A store of named bytes.
@@ -30,8 +48,10 @@ pub trait Shelf {
     fn fetch(&mut self, alloc: Global, name: &str, limit: u32) -> Result<Vec<u8>, ShelfFault>
         ensures same { holds self.new ≡ holds self.old }
         ensures short { IfOk result (λ v. length v.items ≤ limit) }
-        ensures bytes { IfOk result (λ v. IfSome (holds self.old) (λ m. held m name.now ≡ Some v.items)) }
-        ensures cause { FetchCause (holds self.old) name.now limit (faults self.old) (faults self.new) (refusals self.old) (refusals self.new) result };
+        ensures bytes { IfOk result (λ v.
+            IfSome (holds self.old) (λ m. held m name.now ≡ Some v.items)) }
+        ensures cause { FetchCause (holds self.old) name.now limit
+            (faults self.old) (faults self.new) (refusals self.old) (refusals self.new) result };
 
     /// Makes the name hold the bytes. After a fault the shelf holds what it held.
     fn put(&mut self, name: &str, bytes: &[u8]) -> Result<(), ShelfFault>

@@ -1,4 +1,7 @@
-ghost use Rattle.std.specs.Prelude.{ℕ, List, Option};
+ghost use Rattle.std.specs.Prelude.{◌≡◌, ℕ, List, Option};
+ghost use Rattle.sig_base.specs.declared.sink.SinkFault.TheVariants.{Memory};
+
+use std::alloc::AllocError;
 
 /// Why a sink didn't take a whole piece.
 #[derive(Clone, Copy, Debug, PartialEq, Eq)]
@@ -7,6 +10,14 @@ pub enum SinkFault {
     Failed,
     /// No memory could be had; nothing was written.
     Memory,
+}
+
+impl From<AllocError> for SinkFault {
+    ghost from_gives = { λ _ fault. fault ≡ Memory };
+
+    fn from(_error: AllocError) -> SinkFault {
+        SinkFault::Memory
+    }
 }
 
 /// An output that takes bytes in pieces.
@@ -22,5 +33,6 @@ pub trait Sink {
 
     /// Appends the whole piece.
     fn push(&mut self, bytes: &[u8]) -> Result<(), SinkFault>
-        ensures { Pushes (written self.old) (written self.new) bytes.now (faults self.old) (faults self.new) result };
+        ensures { Pushes (written self.old) (written self.new) bytes.now
+            (faults self.old) (faults self.new) result };
 }

@@ -17,7 +17,7 @@ pub struct Title {
 impl Model for Title {
     ghost use Rattle.std.specs.Prelude.{ℕ, List, take, length};
     ghost use Rattle.sig_base.specs.Text.{IsTitle};
-    ghost use Rattle.sig_base.specs.Padded.{IsPadded, padded_to};
+    ghost use Rattle.sig_base.specs.Padding.{IsPadded, padded_to};
 
     ghost Value = { List ℕ };
 
@@ -27,7 +27,7 @@ impl Model for Title {
 
     ghost inverse = { λ name. record { bytes = padded_to 60 name; len = length name } };
 
-    ghost use Rattle.sig_base.specs.TitleBack.{fields_back};
+    ghost use Rattle.sig_base.specs.Title.{fields_back};
 
     ghost inverse_ok = { λ a h. fields_back a h.1 };
 }
@@ -49,6 +49,7 @@ impl Title {
         })
     }
 
+    /// The 1 to 60 bytes of the name.
     pub fn bytes(&self) -> &[u8]
         ensures value { result.now ≡ self.now }
         ensures title { IsTitle self.now }

@@ -12,7 +12,8 @@ pub type WriteLog = VecDeque<(String, Vec<u8>)>;
 
 /// The bytes of a name.
 pub fn find<'l>(log: &'l WriteLog, name: &str) -> Option<&'l Vec<u8>>
-    ensures { option_map (λ bytes. bytes.now.items) result ≡ held (replayed log.now.items) name.now }
+    ensures { option_map (λ bytes. bytes.now.items) result
+        ≡ held (replayed log.now.items) name.now }
 {
     for (held_name, bytes) in log {
         if name == held_name.as_str() {
@@ -24,17 +25,12 @@ pub fn find<'l>(log: &'l WriteLog, name: &str) -> Option<&'l Vec<u8>>
 
 /// Makes the name hold the bytes.
 pub fn write(alloc: Global, log: &mut WriteLog, name: &str, bytes: &[u8]) -> Result<(), NoMemory>
-    ensures ok { OnOk result (replayed log.new.items ≡ with_held (replayed log.old.items) name.now bytes.now) }
+    ensures ok { OnOk result (replayed log.new.items
+        ≡ with_held (replayed log.old.items) name.now bytes.now) }
     ensures err { OnErr result (log.new.items ≡ log.old.items) }
 {
-    let Ok(name) = name.to_string(alloc) else {
-        return Err(NoMemory);
-    };
-    let Ok(bytes) = bytes.to_vec(alloc) else {
-        return Err(NoMemory);
-    };
-    match log.push_front((name, bytes)) {
-        Ok(()) => Ok(()),
-        Err(_) => Err(NoMemory),
-    }
+    let name = name.to_string(alloc)?;
+    let bytes = bytes.to_vec(alloc)?;
+    log.push_front((name, bytes))?;
+    Ok(())
 }

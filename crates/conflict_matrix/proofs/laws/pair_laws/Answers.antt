@@ -1,5 +1,5 @@
 use Rattle.conflict_matrix.proofs.PairNumbers.{pair_law, pair_number_law, rising_pairs_law, pair_count_law}
-use Rattle.conflict_matrix.proofs.PairSum.{pair_sum_law}
+use Rattle.conflict_matrix.proofs.FreePairs.{pair_sum_law}
 use Rattle.conflict_matrix.proofs.laws.pair_laws.Goals as goal
 
 pub returns-clause-pair : goal.returns-clause-pair

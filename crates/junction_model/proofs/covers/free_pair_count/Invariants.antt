@@ -1,7 +1,7 @@
 use Rattle.std.proofs.Common.{◌≡◌, ◌≤◌, take}
 use Rattle.std.specs.List.{count_by}
 use Rattle.conflict_matrix.specs.Conflicts.{matrix_of, pairs_of}
-use Rattle.junction_model.proofs.FreePairs.{is_free}
+use Rattle.conflict_matrix.specs.Pairs.{is_free}
 use Rattle.junction_model.proofs.covers.free_pair_count.Given as goal
 
 abbrev pub invariant-loop-number : goal.invariant-loop-number

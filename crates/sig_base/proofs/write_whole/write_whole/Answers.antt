@@ -1,5 +1,5 @@
 use Rattle.std.proofs.Common.{rules}
-use Rattle.sig_base.proofs.Written.{written_more}
+use Rattle.sig_base.proofs.WriteWhole.{written_more}
 use Rattle.sig_base.proofs.write_whole.write_whole.Goals as goal
 
 pub loop-done-preserved : goal.loop-done-preserved

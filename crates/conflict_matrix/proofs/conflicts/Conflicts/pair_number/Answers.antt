@@ -1,7 +1,7 @@
 use Rattle.std.proofs.Common.{sym, arith}
 use Rattle.std.proofs.lemmas.Bool.{both_ways}
 use Rattle.conflict_matrix.specs.Conflicts.{matrix_of}
-use Rattle.conflict_matrix.proofs.Numbered.{apart_cell, conflicting_cell}
+use Rattle.conflict_matrix.proofs.Rows.{apart_cell, conflicting_cell}
 use Rattle.conflict_matrix.proofs.PairNumbers.{number_at, none_apart}
 use Rattle.conflict_matrix.proofs.conflicts.Conflicts.pair_number.Goals as goal
 

@@ -1,5 +1,5 @@
 use Rattle.std.proofs.Common.{◌≡◌, arith}
-use Rattle.conflict_matrix.proofs.Numbered.{rows_row, numbering_from_rows}
+use Rattle.conflict_matrix.proofs.Rows.{rows_row, numbering_from_rows}
 use Rattle.conflict_matrix.proofs.numbering.Numbering.new.Goals as goal
 
 pub loop-i-preserved : goal.loop-i-preserved

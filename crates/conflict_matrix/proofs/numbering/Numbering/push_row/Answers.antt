@@ -1,5 +1,5 @@
 use Rattle.std.proofs.Common.{arith}
-use Rattle.conflict_matrix.proofs.Numbered.{row_listed, row_skipped, room_for_row, conflicting_cell, apart_cell}
+use Rattle.conflict_matrix.proofs.Rows.{row_more, row_skipped, room_for_row, conflicting_cell, apart_cell}
 use Rattle.conflict_matrix.proofs.numbering.Numbering.push_row.Goals as goal
 use Rattle.conflict_matrix.proofs.numbering.Numbering.push_row.Goals.{then-cells-i, else-cells-i}
 
@@ -10,7 +10,7 @@ pub loop-j-preserved : goal.loop-j-preserved
 loop-j-preserved c =
     elim c.if-cells-i.branch [
       | then-cells-i w ↦
-          rw (w.self-is, w.push.ensures.pair) (row_listed _ _ _ _ _ w.push.ensures.room (omega arith) (omega arith) (conflicting_cell _ w.if-cells-i.true) c.loop-j.invariant)
+          rw (w.self-is, w.push.ensures.pair) (row_more _ _ _ _ _ w.push.ensures.room (omega arith) (omega arith) (conflicting_cell _ w.if-cells-i.true) c.loop-j.invariant)
       | else-cells-i w ↦
           rw w.self-is (row_skipped _ _ _ _ _ (omega arith) (omega arith) (apart_cell _ w.if-cells-i.false) c.loop-j.invariant)
     ]

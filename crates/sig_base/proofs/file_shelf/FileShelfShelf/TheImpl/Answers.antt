@@ -1,6 +1,6 @@
 -- What the trait says of a shelf that tells what it holds asks nothing of one that doesn't.
 use Rattle.std.proofs.Common.{refl}
-use Rattle.sig_base.proofs.Always.{if_ok_always, if_err_always}
+use Rattle.sig_base.proofs.Answers.{if_ok_always, if_err_always}
 use Rattle.sig_base.proofs.file_shelf.FileShelfShelf.TheImpl.Goals as goal
 
 pub fetch-tells : goal.fetch-tells
