@@ -1,67 +1,22 @@
--- The table of edges, by pair number.
-use Rattle.std.proofs.Common.{ℕ, List, ◌≡◌, ◌≢◌, ◌<◌, ◌≤◌, ◌+◌, ◌&&◌, ◌==◌, ◌⊎◌, inl, inr, refl, ◌∙◌, min, max, Bool, true, false, cond, nat_lt, Option, Some, None, IsSome, slice_get, slice_index, get_or, arith, ℤ}
+-- The edges of an order, by what asks for them.
+use Rattle.std.proofs.Common.{ℕ, zero, suc, List, [], ◌∷◌, ◌≡◌, ◌<◌, ◌+◌, ◌&&◌, ◌==◌, if◌then◌else◌, ◌⊎◌, inl, inr, refl, sym, ap, ◌∙◌, min, max, Bool, true, false, cond, length, nat_lt, Option, Some, None, IsSome, IsSomeAnd, slice_get, slice_index, get_or, arith, ℤ, ◌≤ℤ◌}
 use Rattle.std.specs.Option.{option_map_or}
-use Rattle.std.proofs.lemmas.Bool.{false≢true}
+use Rattle.std.proofs.lemmas.Bool.{false≢true, cases_lt, eq-eqb}
 use Rattle.std.proofs.lemmas.Bool.Decides.{nat_tests}
-use Rattle.std.proofs.lemmas.Option.{slice_get-get_or, get_or_from_slice_get}
-use Rattle.std.proofs.lemmas.List.Quantifiers.{position-Some}
-use Rattle.conflict_matrix.specs.Matrix.{Matrix, AreConflicting, intergreen_of}
-use Rattle.conflict_matrix.specs.Pairs.{pairs_of, pair_number_of}
-use Rattle.conflict_matrix.specs.PairLaws.{PairLaw}
-use Rattle.constraint_cycles.specs.Edge.{Edges, mark_between, pair_weight, free_weight, edge_weight}
-use Rattle.constraint_cycles.specs.EdgeLaws.{HasPairEdges, PairEdgeLaw, FreeEdgeLaw, OnlyEdgeLaw}
+use Rattle.std.proofs.lemmas.Int.{ints}
+use Rattle.std.proofs.lemmas.List.{get_or_past}
+use Rattle.std.proofs.lemmas.Option.{slice_get_within, slice_get-get_or, get_or_from_slice_get}
+use Rattle.conflict_matrix.specs.Matrix.{Matrix, IsMatrix, intergreen_of}
+use Rattle.conflict_matrix.specs.Pairs.{pairs_of, pair_number_of, lower_first}
+use Rattle.conflict_matrix.specs.PairLaws.{PairLaw, PairNumberLaw}
+use Rattle.conflict_matrix.specs.declared.link.Link.{Link}
+use Rattle.constraint_cycles.specs.Edge.{pair_weight, origin_weight, group_weight, linked_weight, links_weight, link_marks, greater, edge_weight}
+use Rattle.constraint_cycles.specs.EdgeLaws.{PairAsks, ItemAsks, MarkAsks, IsAsked, AskedLaw, GreatestLaw, ApartLaw}
+use Rattle.constraint_cycles.specs.Walk.{sum_of}
 use Rattle.constraint_cycles.specs.declared.mark.Mark.{Mark}
-use Rattle.constraint_cycles.specs.declared.mark.Mark.TheVariants.{Open, First, Second}
-
-conflicting_edge : (m : Matrix) (marks : List Mark) (needs : List ℕ) (cycle u v intergreen pair : ℕ) (mark : Mark) → u < m.groups → v < m.groups →
-    intergreen_of m u v ≡ Some intergreen → pair_number_of m u v ≡ Some pair → slice_get marks pair ≡ Some mark →
-    edge_weight m marks needs cycle u v ≡ pair_weight mark (nat_lt u v) (slice_index needs u + intergreen) cycle
-conflicting_edge m marks needs cycle u v intergreen pair mark below_u below_v conflict number is =
-    let inside : (nat_lt u m.groups && nat_lt v m.groups) ≡ true = grind (arith, nat_tests) in
-    rw (inside, conflict, number, get_or_from_slice_get marks pair mark Open is) refl
-
-number_back : (m : Matrix) (i j : ℕ) → pair_number_of m j i ≡ pair_number_of m i j
-number_back m i j =
-    let low : min j i ≡ min i j = omega arith in
-    let high : max j i ≡ max i j = omega arith in
-    rw (low, high) refl
-
-has_pair_edges : (edge : Edges) (mark : Mark) (i j forth back cycle : ℕ) → edge i j ≡ pair_weight mark true forth cycle → edge j i ≡ pair_weight mark false back cycle →
-    HasPairEdges mark edge i j forth back cycle
-has_pair_edges edge Open i j forth back cycle there again = (there, again)
-has_pair_edges edge First i j forth back cycle there again = (there, again)
-has_pair_edges edge Second i j forth back cycle there again = (there, again)
-
-pub pair_edge_law : PairLaw → PairEdgeLaw
-pair_edge_law pair_law m marks needs cycle k i j forth back mark at is there again =
-    let pair = pair_law m k (i, j) at in
-    let rising : i < j = pair.0.rising in
-    let within : j < m.groups = pair.0.within in
-    let first_lower : nat_lt i j ≡ true = grind (arith, nat_tests) in
-    let second_higher : nat_lt j i ≡ false = grind (arith, nat_tests) in
-    has_pair_edges (edge_weight m marks needs cycle) mark i j (slice_index needs i + forth) (slice_index needs j + back) cycle
-    (conflicting_edge m marks needs cycle i j forth k mark (omega arith) within there pair.1 is ∙ rw first_lower refl)
-    (conflicting_edge m marks needs cycle j i back k mark within (omega arith) again (number_back m i j ∙ pair.1) is ∙ rw second_higher refl)
-
-free_edge : (m : Matrix) (marks : List Mark) (needs : List ℕ) (cycle u v : ℕ) → u < m.groups → v < m.groups → intergreen_of m u v ≡ None →
-    edge_weight m marks needs cycle u v ≡ free_weight cycle u v
-free_edge m marks needs cycle u v below_u below_v apart =
-    let inside : (nat_lt u m.groups && nat_lt v m.groups) ≡ true = grind (arith, nat_tests) in
-    rw (inside, apart) refl
-
-none_apart : (o : Option ℕ) → ¬ IsSome o → o ≡ None
-none_apart None h = refl
-none_apart (Some w) h = absurd (h refl)
-
-pub free_edge_law : FreeEdgeLaw
-free_edge_law m marks needs cycle g matrix some below apart =
-    let few : m.groups ≤ 16 = matrix.few.1 in
-    let apart_back : ¬ AreConflicting m g 0 = λ c. apart (matrix.symmetric g 0 (omega arith) (omega arith) c) in
-    let other : (g == 0) ≡ false = grind (arith, nat_tests) in
-    let other_back : (0 == g) ≡ false = grind (arith, nat_tests) in (
-      free_edge m marks needs cycle 0 g (omega arith) below (none_apart (intergreen_of m 0 g) apart) ∙ rw other_back refl,
-      free_edge m marks needs cycle g 0 below (omega arith) (none_apart (intergreen_of m g 0) apart_back) ∙ rw other refl,
-    )
+use Rattle.constraint_cycles.specs.declared.mark.Mark.TheVariants.{Open}
+use Rattle.constraint_cycles.proofs.Greater.{greater_is, greater_first, greater_second}
+use Rattle.constraint_cycles.proofs.Refinement.{slice_get-drop}
 
 pub both_below : (u v n : ℕ) → (nat_lt u n && nat_lt v n) ≡ true → (u < n) × (v < n)
 both_below u v n h = grind (arith, nat_tests)
@@ -70,43 +25,148 @@ inside_from : (inside : Bool) (o : Option ℤ) (w : ℤ) → cond inside o None 
 inside_from true o w h = (refl, h)
 inside_from false o w h = cc
 
-free_ends : (cycle u v : ℕ) (w : ℤ) → free_weight cycle u v ≡ Some w → (u ≢ v) × ((u ≡ 0) ⊎ (v ≡ 0))
-free_ends cycle u v w h = grind (arith, nat_tests)
-
-same_ends : (pair : ℕ × ℕ) (u : ℕ) → ((pair.0 == min u u) && (pair.1 == max u u)) ≡ true → pair.0 ≡ pair.1
-same_ends pair u h = grind (arith, nat_tests)
-
-no_own_number : PairLaw → (m : Matrix) (u : ℕ) (number : Option ℕ) → pair_number_of m u u ≡ number → number ≡ None
-no_own_number pair_law m u None is = refl
-no_own_number pair_law m u (Some k) is =
-    let found = position-Some (λ pair. (pair.0 == min u u) && (pair.1 == max u u)) (pairs_of m) k (0, 0) is in
-    let pair = pair_law m k (get_or (pairs_of m) k (0, 0)) (slice_get-get_or (pairs_of m) k (0, 0) found.0) in
-    absurd (omega (arith, pair.0.rising, same_ends (get_or (pairs_of m) k (0, 0)) u found.1))
-
-conflicting_ends : PairLaw → (m : Matrix) (marks : List Mark) (lower : Bool) (wait cycle u v : ℕ) (w : ℤ) → pair_weight (mark_between m marks u v) lower wait cycle ≡ Some w → u ≢ v
-conflicting_ends pair_law m marks lower wait cycle u v w h same =
-    let own = rw (← same) at h in
-    absurd (cc (rw (no_own_number pair_law m u (pair_number_of m u u) refl) at own))
-
--- what an edge says of its two groups
-abbrev Ends : Matrix → ℕ → ℕ → Type 0
-Ends m u v = (u ≢ v) × (AreConflicting m u v ⊎ ((¬ AreConflicting m u v) × ((u ≡ 0) ⊎ (v ≡ 0))))
-
-ends : PairLaw → (m : Matrix) (marks : List Mark) (needs : List ℕ) (cycle u v : ℕ) (w : ℤ) (intergreen : Option ℕ) → intergreen_of m u v ≡ intergreen →
-    option_map_or (λ w. pair_weight (mark_between m marks u v) (nat_lt u v) (slice_index needs u + w) cycle) intergreen (free_weight cycle u v) ≡ Some w → Ends m u v
-ends pair_law m marks needs cycle u v w None is h =
-    let free = free_ends cycle u v w h in
-    (free.0, inr (λ c. false≢true (rw is at c), free.1))
-ends pair_law m marks needs cycle u v w (Some intergreen) is h =
-    (conflicting_ends pair_law m marks (nat_lt u v) (slice_index needs u + intergreen) cycle u v w h, inl (rw is refl))
-
 -- an edge is between groups of the table
 pub below_groups : (m : Matrix) (marks : List Mark) (needs : List ℕ) (cycle u v : ℕ) (w : ℤ) → edge_weight m marks needs cycle u v ≡ Some w → (u < m.groups) × (v < m.groups)
 below_groups m marks needs cycle u v w h = both_below u v m.groups (inside_from (nat_lt u m.groups && nat_lt v m.groups) _ w h).0
 
-pub only_edge_law : PairLaw → OnlyEdgeLaw
-only_edge_law pair_law m marks needs cycle u v w h =
+-- what a mark that is read asks, its place holds
+marked_weight : (marks : List Mark) (k green_and_intergreen cycle : ℕ) (lower : Bool) (w : ℤ) → pair_weight (get_or marks k Open) lower green_and_intergreen cycle ≡ Some w → slice_get marks k ≡ Some (get_or marks k Open)
+marked_weight marks k green_and_intergreen cycle lower w h = elim (cases_lt k (length marks)) [
+  | inl within ↦ slice_get-get_or marks k Open within
+  | inr past ↦ absurd (cc (rw (get_or_past marks k Open past) at h))
+]
+
+pair_asks : (m : Matrix) (marks : List Mark) (needs : List ℕ) (cycle u v intergreen : ℕ) (w : ℤ) (number : Option ℕ) → intergreen_of m u v ≡ Some intergreen →
+    ((k : ℕ) → number ≡ Some k → slice_get (pairs_of m) k ≡ Some (lower_first u v)) →
+    pair_weight (option_map_or (λ k. get_or marks k Open) number Open) (nat_lt u v) (slice_index needs u + intergreen) cycle ≡ Some w → MarkAsks m marks needs cycle u v w
+pair_asks m marks needs cycle u v intergreen w None between numbered h = cc
+pair_asks m marks needs cycle u v intergreen w (Some k) between numbered h = record {
+  item = k;
+  mark = get_or marks k Open;
+  marked = marked_weight marks k (slice_index needs u + intergreen) cycle (nat_lt u v) w h;
+  asks = inl (record { intergreen = intergreen; pair = numbered k refl; between = between; weight = h });
+}
+
+group_asks : PairNumberLaw → (m : Matrix) (marks : List Mark) (needs : List ℕ) (cycle u v : ℕ) (w : ℤ) (intergreen : Option ℕ) → IsMatrix m → u < m.groups → v < m.groups →
+    intergreen_of m u v ≡ intergreen →
+    option_map_or (λ i. pair_weight (option_map_or (λ k. get_or marks k Open) (pair_number_of m u v) Open) (nat_lt u v) (slice_index needs u + i) cycle) intergreen (origin_weight cycle u v) ≡ Some w →
+    IsAsked m marks needs cycle u v w
+group_asks number m marks needs cycle u v w None matrix below_u below_v is h = inr (record { apart = λ c. false≢true (rw is at c); weight = h })
+group_asks number m marks needs cycle u v w (Some intergreen) matrix below_u below_v is h =
+    inl (pair_asks m marks needs cycle u v intergreen w (pair_number_of m u v) is (λ k at. rw at at (number m u v matrix below_u below_v)) h)
+
+links_ask : (marks : List Mark) (links : List Link) (cycle u v : ℕ) (w : ℤ) → links_weight marks links cycle u v ≡ Some w →
+    (k : ℕ) × (mark : Mark) × (link : Link) × (slice_get links k ≡ Some link) × (slice_get marks k ≡ Some mark) × (linked_weight mark link cycle u v ≡ Some w)
+links_ask marks [] cycle u v w h = cc
+links_ask [] (link ∷ links) cycle u v w h = cc
+links_ask (mark ∷ marks) (link ∷ links) cycle u v w h = elim (greater_is (linked_weight mark link cycle u v) (links_weight marks links cycle u v) w h) [
+  | inl here ↦ (0, mark, link, refl, refl, here)
+  | inr later ↦ let found = links_ask marks links cycle u v w later in (suc found.0, found.1, found.2, found.3, found.4, found.5)
+]
+
+pub asked_law : PairNumberLaw → AskedLaw
+asked_law number m marks needs cycle u v w matrix h =
     let inside = inside_from (nat_lt u m.groups && nat_lt v m.groups) _ w h in
-    let below = below_groups m marks needs cycle u v w h in
-    let about = ends pair_law m marks needs cycle u v w (intergreen_of m u v) refl inside.1 in
-    (below.0, below.1, about.0, about.1)
+    let below = both_below u v m.groups inside.0 in (
+      below.0,
+      below.1,
+      elim (greater_is (group_weight m marks needs cycle u v) (links_weight (link_marks m marks) m.links cycle u v) w inside.1) [
+        | inl group ↦ group_asks number m marks needs cycle u v w (intergreen_of m u v) matrix below.0 below.1 refl group
+        | inr links ↦
+            let found = links_ask (link_marks m marks) m.links cycle u v w links in
+            inl (record {
+              item = length (pairs_of m) + found.0;
+              mark = found.1;
+              marked = sym (slice_get-drop (length (pairs_of m)) marks found.0) ∙ found.4;
+              asks = inr (record { number = found.0; link = found.2; behind_pairs = refl; there = found.3; weight = found.5 });
+            })
+      ],
+    )
+
+lower_number : (m : Matrix) (u v : ℕ) → pair_number_of m (min u v) (max u v) ≡ pair_number_of m u v
+lower_number m u v =
+    let low : min (min u v) (max u v) ≡ min u v = omega arith in
+    let high : max (min u v) (max u v) ≡ max u v = omega arith in
+    rw (low, high) refl
+
+none_apart : (o : Option ℕ) → ¬ IsSome o → o ≡ None
+none_apart None h = refl
+none_apart (Some w) h = absurd (h refl)
+
+group_asked : PairLaw → (m : Matrix) (marks : List Mark) (needs : List ℕ) (cycle u v item : ℕ) (mark : Mark) (w : ℤ) → slice_get marks item ≡ Some mark →
+    PairAsks m item mark needs cycle u v w → group_weight m marks needs cycle u v ≡ Some w
+group_asked pair m marks needs cycle u v item mark w marked h =
+    let number : pair_number_of m u v ≡ Some item = sym (lower_number m u v) ∙ (pair m item (lower_first u v) h.pair).1 in
+    rw (h.between, number, get_or_from_slice_get marks item mark Open marked) h.weight
+
+at_least : (o : Option ℤ) (w : ℤ) → (x : ℤ) × (o ≡ Some x) × (w ≤ℤ x) → IsSomeAnd o (λ x. w ≤ℤ x)
+at_least o w h = rw h.1 h.2
+
+links_asked : (marks : List Mark) (links : List Link) (cycle u v k : ℕ) (mark : Mark) (link : Link) (w : ℤ) → slice_get links k ≡ Some link → slice_get marks k ≡ Some mark →
+    linked_weight mark link cycle u v ≡ Some w → (x : ℤ) × (links_weight marks links cycle u v ≡ Some x) × (w ≤ℤ x)
+links_asked marks [] cycle u v k mark link w there marked h = cc
+links_asked [] (l ∷ links) cycle u v k mark link w there marked h = cc
+links_asked (k0 ∷ marks) (l ∷ links) cycle u v zero mark link w there marked h =
+    let same_link : l ≡ link = cc in
+    let same_mark : k0 ≡ mark = cc in
+    greater_first (linked_weight k0 l cycle u v) (links_weight marks links cycle u v) w w (rw (same_link, same_mark) h) (omega (arith, ints))
+links_asked (k0 ∷ marks) (l ∷ links) cycle u v (suc k) mark link w there marked h =
+    let later = links_asked marks links cycle u v k mark link w there marked h in
+    greater_second (linked_weight k0 l cycle u v) (links_weight marks links cycle u v) later.0 w later.1 later.2
+
+pub greatest_law : PairLaw → GreatestLaw
+greatest_law pair m marks needs cycle u v w below_u below_v asked =
+    let inside : (nat_lt u m.groups && nat_lt v m.groups) ≡ true = grind (arith, nat_tests) in
+    let group = group_weight m marks needs cycle u v in
+    let links = links_weight (link_marks m marks) m.links cycle u v in
+    rw inside (at_least (greater group links) w (elim asked [
+      | inl a ↦ elim a.asks [
+        | inl p ↦ greater_first group links w w (group_asked pair m marks needs cycle u v a.item a.mark w a.marked p) (omega (arith, ints))
+        | inr l ↦
+            let marked = slice_get-drop (length (pairs_of m)) marks l.number ∙ ap (slice_get marks) (sym l.behind_pairs) ∙ a.marked in
+            let found = links_asked (link_marks m marks) m.links cycle u v l.number a.mark l.link w l.there marked l.weight in
+            greater_second group links found.0 w found.1 found.2
+      ]
+      | inr c ↦ greater_first group links w w (rw (none_apart (intergreen_of m u v) c.apart) c.weight) (omega (arith, ints))
+    ]))
+
+free_apart : (cycle u : ℕ) (w : ℤ) → origin_weight cycle u u ≡ Some w → ⊥
+free_apart cycle u w h = cc (rw (eq-eqb u u refl) at h)
+
+ends : (first second : Bool) (a b : Option ℤ) (w : ℤ) → (if first then a else if second then b else None) ≡ Some w → (first ≡ true) ⊎ (second ≡ true)
+ends true second a b w h = inl refl
+ends false true a b w h = inr refl
+ends false false a b w h = cc
+
+link_ends : (u leader follower : ℕ) → (u == leader && u == follower) ≡ true → leader ≡ follower
+link_ends u leader follower h = grind (arith, nat_tests)
+
+link_apart : (mark : Mark) (link : Link) (cycle u : ℕ) (w : ℤ) → linked_weight mark link cycle u u ≡ Some w → link.leader ≡ link.follower
+link_apart mark link cycle u w h = elim (ends (u == link.leader && u == link.follower) (u == link.follower && u == link.leader) _ _ w h) [
+  | inl leads ↦ link_ends u link.leader link.follower leads
+  | inr follows ↦ sym (link_ends u link.follower link.leader follows)
+]
+
+item_apart : PairLaw → (m : Matrix) (item : ℕ) (mark : Mark) (needs : List ℕ) (cycle u : ℕ) (w : ℤ) → IsMatrix m → ¬ ItemAsks m item mark needs cycle u u w
+item_apart pair m item mark needs cycle u w matrix (inl p) = let rising = (pair m item (lower_first u u) p.pair).0.rising in absurd (omega arith)
+item_apart pair m item mark needs cycle u w matrix (inr l) =
+    matrix.links.apart l.number (slice_get_within m.links l.number l.link l.there) (rw l.there (link_apart mark l.link cycle u w l.weight))
+
+asked_apart : PairLaw → (m : Matrix) (marks : List Mark) (needs : List ℕ) (cycle u : ℕ) (w : ℤ) → IsMatrix m → ¬ IsAsked m marks needs cycle u u w
+asked_apart pair m marks needs cycle u w matrix (inl a) = item_apart pair m a.item a.mark needs cycle u w matrix a.asks
+asked_apart pair m marks needs cycle u w matrix (inr c) = free_apart cycle u w c.weight
+
+no_weight : (o : Option ℤ) → ((w : ℤ) → o ≡ Some w → ⊥) → o ≡ None
+no_weight None h = refl
+no_weight (Some w) h = absurd (h w refl)
+
+pub apart_law : PairLaw → PairNumberLaw → ApartLaw
+apart_law pair number m marks needs cycle u matrix =
+    no_weight (edge_weight m marks needs cycle u u) (λ w h. asked_apart pair m marks needs cycle u w matrix (asked_law number m marks needs cycle u u w matrix h).2)
+
+-- so a walk of one group has no sum
+pub alone_law : PairLaw → PairNumberLaw → (m : Matrix) (marks : List Mark) (needs : List ℕ) (cycle : ℕ) (walk : List ℕ) → IsMatrix m → length walk ≡ 1 →
+    sum_of (edge_weight m marks needs cycle) walk ≡ None
+alone_law pair number m marks needs cycle [] matrix one = absurd (omega arith)
+alone_law pair number m marks needs cycle (u ∷ []) matrix one = apart_law pair number m marks needs cycle u matrix
+alone_law pair number m marks needs cycle (u ∷ (v ∷ rest)) matrix one = absurd (omega arith)

@@ -1,10 +1,9 @@
 -- The pairs with group 0 come first, so the root order is First at these and Open at all others.
-use Rattle.std.proofs.Common.{ℕ, zero, suc, List, [], ◌∷◌, ◌++◌, ◌≡◌, ◌≢◌, ◌<◌, ◌≤◌, ◌+◌, ◌-◌, ◌⊎◌, ◌↔◌, true, false, cond, refl, ap, ◌∙◌, Some, length, map, replicate, slice_get, count_by, inl, inr, arith}
-use Rattle.std.proofs.lemmas.List.Sums.{sum_by-cons}
+use Rattle.std.proofs.Common.{ℕ, zero, suc, List, [], ◌∷◌, ◌++◌, ◌≡◌, ◌≢◌, ◌<◌, ◌≤◌, ◌-◌, ◌⊎◌, ◌↔◌, refl, ap, ◌∙◌, Some, length, map, replicate, slice_get, count_by, inl, inr, arith}
 use Rattle.std.proofs.lemmas.Bool.{cases_eq}
-use Rattle.std.proofs.lemmas.Bool.Decides.{nat_tests}
 use Rattle.conflict_matrix.specs.Pairs.{has_group_0}
-use Rattle.constraint_cycles.specs.Order.{root_mark}
+use Rattle.conflict_matrix.proofs.FreePairs.{first_test, other_test, first_count}
+use Rattle.constraint_cycles.specs.Marks.{root_mark}
 use Rattle.constraint_cycles.specs.declared.mark.Mark.TheVariants.{Open, First}
 
 -- the pairs rise with the lower group, then with the higher one
@@ -17,22 +16,13 @@ pub record IsRoot (pairs : List (ℕ × ℕ)) : Type 0 where
   pub marks : map root_mark pairs ≡ replicate (count_by has_group_0 pairs) First ++ replicate (length pairs - count_by has_group_0 pairs) Open
   pub first : (k : ℕ) (pair : ℕ × ℕ) → slice_get pairs k ≡ Some pair → (pair.0 ≡ 0) ↔ (k < count_by has_group_0 pairs)
 
-pub first_test : (pair : ℕ × ℕ) → pair.0 ≡ 0 → has_group_0 pair ≡ true
-first_test pair h = grind (arith, nat_tests)
-
-pub other_test : (pair : ℕ × ℕ) → pair.0 ≢ 0 → has_group_0 pair ≡ false
-other_test pair h = grind (arith, nat_tests)
-
-count-cons : (pair : ℕ × ℕ) (pairs : List (ℕ × ℕ)) → count_by has_group_0 (pair ∷ pairs) ≡ cond (has_group_0 pair) 1 0 + count_by has_group_0 pairs
-count-cons pair pairs = sum_by-cons (λ (p : ℕ × ℕ). cond (has_group_0 p) 1 0) pair pairs
-
 none_first : (pairs : List (ℕ × ℕ)) → ((k : ℕ) (pair : ℕ × ℕ) → slice_get pairs k ≡ Some pair → pair.0 ≢ 0) →
     (count_by has_group_0 pairs ≡ 0) × (map root_mark pairs ≡ replicate (length pairs) Open)
 none_first [] h = (refl, refl)
 none_first (pair ∷ pairs) h =
     let later = none_first pairs (λ k. h (suc k)) in
     let here = other_test pair (h 0 pair refl) in
-    (count-cons pair pairs ∙ rw (here, later.0) refl, rw (here, later.1) refl)
+    (first_count pair pairs ∙ rw (here, later.0) refl, rw (here, later.1) refl)
 
 first_stands : (w : ℕ) (pair : ℕ × ℕ) (pairs : List (ℕ × ℕ)) → pair.0 ≡ 0 → ((k : ℕ) (p : ℕ × ℕ) → slice_get pairs k ≡ Some p → (p.0 ≡ 0) ↔ (k < w)) →
     (k : ℕ) (p : ℕ × ℕ) → slice_get (pair ∷ pairs) k ≡ Some p → (p.0 ≡ 0) ↔ (k < suc w)
@@ -46,7 +36,7 @@ first_stands w pair pairs first later (suc k) p at =
 root_more : (pair : ℕ × ℕ) (pairs : List (ℕ × ℕ)) → pair.0 ≡ 0 → IsRoot pairs → IsRoot (pair ∷ pairs)
 root_more pair pairs first h =
     let here = first_test pair first in
-    let count : count_by has_group_0 (pair ∷ pairs) ≡ suc (count_by has_group_0 pairs) = count-cons pair pairs ∙ rw here (omega arith) in
+    let count : count_by has_group_0 (pair ∷ pairs) ≡ suc (count_by has_group_0 pairs) = first_count pair pairs ∙ rw here (omega arith) in
     let left : length (pair ∷ pairs) - suc (count_by has_group_0 pairs) ≡ length pairs - count_by has_group_0 pairs = omega arith in
     record {
       within = omega (arith, count, h.within);

@@ -1,10 +1,14 @@
+pub mod Marks
 pub mod Order
-pub mod Orders
 pub mod Edge
 pub mod Walk
-pub mod WalkBack
+pub mod WalkFields
+pub mod Closing
 pub mod Starts
+pub mod StartsLaws
 pub mod Tree
+pub mod Visit
+pub mod TreeShape
 pub mod OrderLaws
 pub mod EdgeLaws
 pub mod WalkLaws

@@ -1,37 +1,28 @@
--- Which group of each conflicting pair starts first in the cycle.
-use Rattle.std.specs.Prelude.{ℕ, List, length, Some, ◌≡◌, ◌≢◌, ◌≤◌, All, map, take, replicate, slice_get, if◌then◌else◌}
-use Rattle.conflict_matrix.specs.Matrix.{Matrix}
-use Rattle.conflict_matrix.specs.Pairs.{pairs_of, has_group_0, fixed_pairs}
+-- What contracts see of an order.
+use Rattle.std.specs.Prelude.{ℕ, List, take}
+use Rattle.conflict_matrix.specs.Conflicts.{matrix_of}
+use Rattle.conflict_matrix.specs.declared.conflicts.Conflicts.{Conflicts}
+use Rattle.constraint_cycles.specs.Marks.{OrderView}
+use Rattle.constraint_cycles.specs.Edge.{Edges, edge_weight}
+use Rattle.constraint_cycles.specs.Closing.{Closes}
+use Rattle.constraint_cycles.specs.Starts.{MeetsOrder}
 use Rattle.constraint_cycles.specs.declared.mark.Mark.{Mark}
-use Rattle.constraint_cycles.specs.declared.mark.Mark.TheVariants.{Open, First}
+use Rattle.constraint_cycles.specs.declared.order.Order.{Order}
 
--- the marks by pair number, and how many of the first ones are fixed
-pub record OrderView : Type 0 where
-  pub marks : List Mark
-  pub fixed : ℕ
+abbrev pub order_of : Order → OrderView
+order_of o = record { marks = take o.count o.marks; fixed = o.fixed }
 
--- the fixed marks are First
-pub record KeepsFixed (o : OrderView) : Type 0 where
-  pub within : o.fixed ≤ length o.marks
-  pub first : take o.fixed o.marks ≡ replicate o.fixed First
+abbrev pub marks_of : Order → List Mark
+marks_of o = (order_of o).marks
 
--- the order is made for these conflicts: one mark for each pair, those with group 0 fixed
-pub record IsOrderFor (m : Matrix) (o : OrderView) : Type 0 where
-  pub marks : length o.marks ≡ length (pairs_of m)
-  pub fixed : o.fixed ≡ fixed_pairs m
+-- the edges of the order for the green that each group needs
+abbrev pub edges_for : Conflicts → Order → List ℕ → ℕ → Edges
+edges_for conflicts order needs cycle = edge_weight (matrix_of conflicts) (marks_of order) needs cycle
 
-abbrev pub root_mark : ℕ × ℕ → Mark
-root_mark pair = if has_group_0 pair then First else Open
+-- the order is closed by the walk
+abbrev pub IsClosedBy : Conflicts → Order → List ℕ → ℕ → List ℕ → Type 0
+IsClosedBy conflicts order needs cycle walk = Closes (matrix_of conflicts) (marks_of order) needs cycle walk
 
--- group 0 is first of all its pairs, and every other pair is open
-abbrev pub root_marks : Matrix → List Mark
-root_marks m = map root_mark (pairs_of m)
-
--- the second order has as many marks, and each mark of the first that isn't Open stands in it too
-pub record Refines (marks finer : List Mark) : Type 0 where
-  pub as_many : length finer ≡ length marks
-  pub kept : (k : ℕ) (mark : Mark) → slice_get marks k ≡ Some mark → mark ≢ Open → slice_get finer k ≡ Some mark
-
--- no mark is Open
-abbrev pub IsDecided : List Mark → Type 0
-IsDecided marks = All (λ mark. mark ≢ Open) marks
+-- the order is met by the starts
+abbrev pub IsMetBy : Conflicts → Order → List ℕ → ℕ → List ℕ → Type 0
+IsMetBy conflicts order needs cycle starts = MeetsOrder (matrix_of conflicts) (marks_of order) needs cycle starts

@@ -5,7 +5,7 @@ use Rattle.constraint_cycles.specs.Edge.{Edges}
 
 -- the groups of a walk, whose last step goes back to the first group
 pub record IsWalk (groups : List ℕ) : Type 0 where
-  pub several : 2 ≤ length groups
+  pub some : 1 ≤ length groups
   pub few : length groups ≤ 16
   pub within : All (λ g. g < 16) groups
 
@@ -24,10 +24,9 @@ abbrev pub sum_of : Edges → List ℕ → Option ℤ
 sum_of edge [] = None
 sum_of edge (first ∷ rest) = sum_back edge first first rest
 
--- the groups are a closed walk of 2 to 16 groups, each step has an edge, and the weights add up to more than 0:
--- a positive cycle
-pub record Closes (edge : Edges) (walk : List ℕ) : Type 0 where
-  pub closed : IsWalk walk
+-- each step has an edge, and the weights add up to more than 0
+pub record IsPositiveCycle (edge : Edges) (groups : List ℕ) : Type 0 where
+  pub walk : IsWalk groups
   pub sum : ℤ
-  pub adds : sum_of edge walk ≡ Some sum
+  pub adds : sum_of edge groups ≡ Some sum
   pub positive : pos 0 <ℤ sum

@@ -1,15 +1,19 @@
-ghost use Rattle.std.specs.Prelude.{◌≡◌, ◌<◌, ◌↔◌, All, IsTrue};
+ghost use Rattle.std.specs.Prelude.{◌≡◌, ◌<◌, ◌↔◌, None, length, All, IsTrue};
+ghost use Rattle.sig_base.specs.Times.{IsCycle};
 ghost use Rattle.conflict_matrix.specs.Conflicts.{matrix_of};
-ghost use Rattle.constraint_cycles.specs.Orders.{order_of, marks_of};
-ghost use Rattle.constraint_cycles.specs.Edge.{AreWeighable, edge_weight};
-ghost use Rattle.constraint_cycles.specs.Walk.{IsWalk, Closes, sum_of};
+ghost use Rattle.constraint_cycles.specs.Order.{order_of, edges_for, IsClosedBy};
+ghost use Rattle.constraint_cycles.specs.Marks.{IsOrderFor};
+ghost use Rattle.constraint_cycles.specs.Edge.{AreNeeds};
+ghost use Rattle.constraint_cycles.specs.Walk.{IsWalk, sum_of};
 
 use crate::edge::weight;
 use crate::order::Order;
 use crate::walk::Walk;
-use conflict_matrix::Conflicts;
+use conflict_matrix::{Conflicts, pair_laws};
+use sig_base::LONGEST_GREEN;
 
-/// The sum of the weights of all steps of the walk, in seconds; `None` exactly where a step has no edge.
+/// The sum of the weights of all steps of the walk, in seconds; `None` exactly where a step has no edge, as that of a
+/// walk of one group has none.
 pub fn walk_sum(
     conflicts: &Conflicts,
     order: &Order,
@@ -17,11 +21,15 @@ pub fn walk_sum(
     cycle: u32,
     walk: &Walk,
 ) -> Option<i64>
-    requires asked { AreWeighable (matrix_of conflicts.now) (order_of order.now) needs.now cycle }
+    requires order { IsOrderFor (matrix_of conflicts.now) (order_of order.now) }
+    requires needs { AreNeeds (matrix_of conflicts.now) needs.now }
+    requires cycle { IsCycle cycle }
     requires groups { All (λ g. g < (matrix_of conflicts.now).groups) walk.now }
-    ensures value { result ≡ sum_of (edge_weight (matrix_of conflicts.now) (marks_of order.now) needs.now cycle) walk.now }
+    ensures value { result ≡ sum_of (edges_for conflicts.now order.now needs.now cycle) walk.now }
+    ensures alone { length walk.now ≡ 1 → result ≡ None }
     ensures walk { IsWalk walk.now }
 {
+    pair_laws();
     let groups = walk.groups();
     let first = usize::from(groups[0]);
     let mut from = first;
@@ -36,7 +44,8 @@ pub fn walk_sum(
     Some(sum + last)
 }
 
-/// Whether the walk closes the order: each step has an edge, and the weights add up to more than 0.
+/// Whether the walk closes the order: it is of one group for which no green that it may have is enough (its need is then
+/// 301, one past the longest green), or each step has an edge, and the weights add up to more than 0.
 pub fn closes(
     conflicts: &Conflicts,
     order: &Order,
@@ -44,10 +53,16 @@ pub fn closes(
     cycle: u32,
     walk: &Walk,
 ) -> bool
-    requires asked { AreWeighable (matrix_of conflicts.now) (order_of order.now) needs.now cycle }
+    requires order { IsOrderFor (matrix_of conflicts.now) (order_of order.now) }
+    requires needs { AreNeeds (matrix_of conflicts.now) needs.now }
+    requires cycle { IsCycle cycle }
     requires groups { All (λ g. g < (matrix_of conflicts.now).groups) walk.now }
-    ensures { IsTrue result ↔ Closes (edge_weight (matrix_of conflicts.now) (marks_of order.now) needs.now cycle) walk.now }
+    ensures { IsTrue result ↔ IsClosedBy conflicts.now order.now needs.now cycle walk.now }
 {
+    let groups = walk.groups();
+    if groups.len() == 1 {
+        return needs[usize::from(groups[0])] > LONGEST_GREEN;
+    }
     match walk_sum(conflicts, order, needs, cycle, walk) {
         Some(sum) => sum > 0,
         None => false,

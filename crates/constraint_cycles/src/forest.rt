@@ -21,6 +21,7 @@ impl Model for Forest {
 }
 
 impl Forest {
+    /// The forest without trees.
     pub fn new(alloc: Global) -> Forest
         ensures { result ≡ [] }
     {
@@ -29,16 +30,16 @@ impl Forest {
         }
     }
 
+    /// One more tree at the end; after want of memory the forest is as before.
     pub fn push(&mut self, tree: Tree) -> Result<(), NoMemory>
         ensures ok { OnOk result (self.new ≡ self.old ++ tree ∷ []) }
         ensures kept { OnErr result (self.new ≡ self.old) }
     {
-        match self.trees.push(tree) {
-            Ok(()) => Ok(()),
-            Err(_) => Err(NoMemory),
-        }
+        self.trees.push(tree)?;
+        Ok(())
     }
 
+    /// The trees, in the order in which they were pushed.
     pub fn items(&self) -> &[Tree]
         ensures { result.now ≡ self.now }
     {

@@ -1,25 +1,27 @@
 ghost use Rattle.std.specs.Prelude.{◌≡◌, ◌≤◌, ◌<◌, length, Some, take, drop, replicate, slice_get, slice_set};
 ghost use Rattle.conflict_matrix.specs.Conflicts.{matrix_of};
 ghost use Rattle.constraint_cycles.specs.declared.mark.Mark.TheVariants.{Open};
-ghost use Rattle.constraint_cycles.specs.Order.{IsOrderFor, KeepsFixed, root_marks};
+ghost use Rattle.constraint_cycles.specs.Marks.{IsOrderFor, KeepsFixed, root_marks};
 
 use crate::mark::Mark;
-use conflict_matrix::{Conflicts, pair_laws};
+use conflict_matrix::{Conflicts, MOST_LINKS, MOST_PAIRS, pair_laws};
 
-/// A mark for each conflicting pair, by pair number. The pairs with group 0 have the lowest numbers;
-/// their marks are fixed, and stay `First`.
+const MOST_ITEMS: usize = MOST_PAIRS + MOST_LINKS;
+
+/// A mark for each item: the conflicting pairs by their numbers, and then the links. The pairs with group 0 have the
+/// lowest numbers; their marks are fixed, and stay `First`.
 #[derive(Clone, Copy, Debug, PartialEq, Eq)]
 pub struct Order {
-    marks: [Mark; 120],
+    marks: [Mark; MOST_ITEMS],
     count: usize,
     fixed: usize,
-    pub ghost few: { count ≤ 120 },
-    pub ghost unused: { drop count marks ≡ drop count (replicate 120 Open) },
+    pub ghost few: { count ≤ 132 },
+    pub ghost unused: { drop count marks ≡ drop count (replicate 132 Open) },
     pub ghost held: { KeepsFixed (record { marks = take count marks; fixed = fixed }) },
 }
 
 impl Order {
-    ghost use Rattle.constraint_cycles.specs.Orders.{order_of, marks_of};
+    ghost use Rattle.constraint_cycles.specs.Order.{order_of, marks_of};
 
     /// The order of these conflicts with every mark open that isn't fixed.
     pub fn root(conflicts: &Conflicts) -> Order
@@ -27,10 +29,11 @@ impl Order {
         ensures marks { marks_of result ≡ root_marks (matrix_of conflicts.now) }
     {
         pair_laws();
-        let count = conflicts.pair_count();
-        let mut marks = [Mark::Open; 120];
+        let pairs = conflicts.pair_count();
+        let links = conflicts.links().len();
+        let mut marks = [Mark::Open; MOST_ITEMS];
         let mut fixed = 0;
-        for pair in 0..count {
+        for pair in 0..pairs {
             if conflicts.pair(pair).0 == 0 {
                 marks[pair] = Mark::First;
                 fixed += 1;
@@ -38,26 +41,26 @@ impl Order {
         }
         Order {
             marks,
-            count,
+            count: pairs + links,
             fixed,
         }
     }
 
-    /// The mark of the pair of a number.
-    pub fn mark(&self, pair: usize) -> Mark
-        requires { pair < length (marks_of self.now) }
-        ensures { slice_get (marks_of self.now) pair ≡ Some result }
+    /// The mark of the item of a number.
+    pub fn mark(&self, item: usize) -> Mark
+        requires { item < length (marks_of self.now) }
+        ensures { slice_get (marks_of self.now) item ≡ Some result }
     {
-        self.marks[pair]
+        self.marks[item]
     }
 
-    /// Marks a pair that isn't fixed.
-    pub fn set(&mut self, pair: usize, mark: Mark)
-        requires below { pair < length (marks_of self.old) }
-        requires free { (order_of self.old).fixed ≤ pair }
-        ensures marks { marks_of self.new ≡ slice_set (marks_of self.old) pair mark }
+    /// Marks an item that isn't fixed.
+    pub fn set(&mut self, item: usize, mark: Mark)
+        requires below { item < length (marks_of self.old) }
+        requires unfixed { (order_of self.old).fixed ≤ item }
+        ensures marks { marks_of self.new ≡ slice_set (marks_of self.old) item mark }
         ensures fixed { (order_of self.new).fixed ≡ (order_of self.old).fixed }
     {
-        self.marks[pair] = mark;
+        self.marks[item] = mark;
     }
 }

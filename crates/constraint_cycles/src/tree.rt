@@ -35,10 +35,8 @@ impl Tree {
         ensures ok { OnOk result (self.new ≡ self.old ++ node ∷ []) }
         ensures kept { OnErr result (self.new ≡ self.old) }
     {
-        match self.nodes.push(node) {
-            Ok(()) => Ok(()),
-            Err(_) => Err(NoMemory),
-        }
+        self.nodes.push(node)?;
+        Ok(())
     }
 
     /// Takes the last node away; `None` exactly where there is none.
@@ -57,6 +55,7 @@ impl Tree {
         self.nodes[place] = node;
     }
 
+    /// The nodes, in preorder.
     pub fn items(&self) -> &[Node]
         ensures { result.now ≡ self.now }
     {

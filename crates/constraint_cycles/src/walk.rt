@@ -3,7 +3,7 @@ ghost use Rattle.constraint_cycles.specs.Walk.{IsWalk};
 
 use std::marker::Model;
 
-/// A closed walk of 2 to 16 groups, whose last step goes from its last group to its first. Contracts see
+/// A closed walk of 1 to 16 groups, whose last step goes from its last group to its first. Contracts see
 /// it as the list of its groups.
 #[derive(Clone, Copy, Debug, PartialEq, Eq)]
 pub struct Walk {
@@ -13,7 +13,7 @@ pub struct Walk {
 
 impl Model for Walk {
     ghost use Rattle.std.specs.Prelude.{ℕ, List, take, length};
-    ghost use Rattle.sig_base.specs.Padded.{IsPadded, padded_to};
+    ghost use Rattle.sig_base.specs.Padding.{IsPadded, padded_to};
     ghost use Rattle.constraint_cycles.specs.Walk.{IsWalk};
 
     ghost Value = { List ℕ };
@@ -24,13 +24,13 @@ impl Model for Walk {
 
     ghost inverse = { λ groups. record { cells = padded_to 16 groups; len = length groups } };
 
-    ghost use Rattle.constraint_cycles.specs.WalkBack.{fields_back};
+    ghost use Rattle.constraint_cycles.specs.WalkFields.{fields_back};
 
     ghost inverse_ok = { λ w h. fields_back w h.1 };
 }
 
 impl Walk {
-    /// The walk along these groups; `None` exactly where their number is outside 2 to 16 or a group is above 15.
+    /// The walk along these groups; `None` exactly where their number is outside 1 to 16 or a group is above 15.
     pub fn new(groups: &[u8]) -> Option<Walk>
         ensures exactly { IsSome result ↔ IsWalk groups.now }
         ensures value { IfSome result (λ walk. walk ≡ groups.now) }
@@ -46,6 +46,7 @@ impl Walk {
         })
     }
 
+    /// The groups that the walk passes, in its order; there are 1 to 16, each below 16.
     pub fn groups(&self) -> &[u8]
         ensures value { result.now ≡ self.now }
         ensures walk { IsWalk self.now }
@@ -57,5 +58,5 @@ impl Walk {
 fn are_walk(groups: &[u8]) -> bool
     ensures { IsTrue result ↔ IsWalk groups.now }
 {
-    groups.len() >= 2 && groups.len() <= 16 && groups.iter().all(|group| *group < 16)
+    !groups.is_empty() && groups.len() <= 16 && groups.iter().all(|group| *group < 16)
 }

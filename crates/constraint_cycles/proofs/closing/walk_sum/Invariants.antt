@@ -1,8 +1,8 @@
 use Rattle.std.proofs.Common.{◌<◌}
 use Rattle.conflict_matrix.specs.Conflicts.{matrix_of}
-use Rattle.constraint_cycles.specs.Orders.{marks_of}
+use Rattle.constraint_cycles.specs.Order.{marks_of}
 use Rattle.constraint_cycles.specs.Edge.{edge_weight}
-use Rattle.constraint_cycles.proofs.Summed.{IsSummed}
+use Rattle.constraint_cycles.proofs.Sums.{IsSummed}
 use Rattle.constraint_cycles.proofs.closing.walk_sum.Given as goal
 
 abbrev pub invariant-loop-place : goal.invariant-loop-place

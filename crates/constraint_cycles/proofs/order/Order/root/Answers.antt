@@ -1,6 +1,6 @@
 use Rattle.std.proofs.Common.{rules}
 use Rattle.conflict_matrix.specs.Conflicts.{matrix_of}
-use Rattle.constraint_cycles.proofs.RootMarks.{begun_first, begun_other, root_kept, root_unused}
+use Rattle.constraint_cycles.proofs.RootMarks.{begun_first, begun_other, root_kept, root_taken, root_unused}
 use Rattle.constraint_cycles.proofs.order.Order.root.Goals as goal
 use Rattle.constraint_cycles.proofs.order.Order.root.Goals.{then-pair-eq0, else-pair-eq0}
 
@@ -14,6 +14,9 @@ loop-pair-preserved c =
 pub invariant_of-result : goal.invariant_of-result
 invariant_of-result c = record {
   few = search rules;
-  unused = root_unused _ _ _ _ _ c.pair_count-count.ensures c.loop-pair-test.false c.loop-pair.invariant;
-  held = root_kept _ _ _ _ _ (c.pair_laws.ensures.rising (matrix_of c.args.conflicts.now)) c.pair_count-count.ensures c.loop-pair-test.false c.loop-pair.invariant;
+  unused = rw c.pair_count-pairs.ensures (root_unused _ _ _ _ _ (rw (← c.pair_count-pairs.ensures) c.loop-pair-test.false) c.loop-pair.invariant);
+  held = rw c.pair_count-pairs.ensures (root_kept _ _ _ _ _ (c.pair_laws.ensures.rising (matrix_of c.args.conflicts.now)) (search rules) (rw (← c.pair_count-pairs.ensures) c.loop-pair-test.false) c.loop-pair.invariant);
 }
+
+pub returns-clause-marks : goal.returns-clause-marks
+returns-clause-marks c = rw (c.pair_count-pairs.ensures, ← c.links-links.ensures.value) (root_taken _ _ _ _ _ (search rules) (rw (← c.pair_count-pairs.ensures) c.loop-pair-test.false) c.loop-pair.invariant)
