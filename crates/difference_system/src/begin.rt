@@ -1,5 +1,5 @@
 //! The starts that the edges from group 0 ask for.
-ghost use Rattle.difference_system.specs.SystemParts.{IsStateOf};
+ghost use Rattle.difference_system.specs.System.{IsStateOf};
 
 use crate::state::State;
 use crate::system::System;

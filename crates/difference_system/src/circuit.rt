@@ -4,7 +4,7 @@ ghost use Rattle.std.specs.List.{IsFirstBest, IsDistinct};
 ghost use Rattle.std.specs.List.Sorted.{IsPermutation};
 ghost use Rattle.constraint_cycles.specs.Edge.{Edges};
 ghost use Rattle.constraint_cycles.specs.Walk.{IsWalk, sum_of};
-ghost use Rattle.difference_system.specs.Trails.{cut};
+ghost use Rattle.difference_system.specs.Trail.{cut};
 
 use crate::trail::Trail;
 use constraint_cycles::Walk;
@@ -37,8 +37,8 @@ fn lowest_place(groups: &[u8]) -> usize
     lowest
 }
 
-/// Turns the walk until it begins with its lowest group.
-fn turn(groups: &mut [u8])
+/// Lets the walk begin at its lowest group.
+fn begin_at_lowest(groups: &mut [u8])
     requires { 0 < length groups.old }
     ensures moved { IsPermutation groups.old groups.new }
     ensures lowest { All (λ g. slice_index groups.new 0 ≤ g) groups.new }
@@ -48,7 +48,7 @@ fn turn(groups: &mut [u8])
 }
 
 /// The walk along the groups, from its lowest group on.
-fn turned(groups: &[u8]) -> Walk
+fn from_lowest(groups: &[u8]) -> Walk
     requires walk { IsWalk groups.now }
     ensures walk { IsWalk result }
     ensures moved { IsPermutation groups.now result }
@@ -58,7 +58,7 @@ fn turned(groups: &[u8]) -> Walk
     let mut cells = [0; 16];
     let walk = &mut cells[..groups.len()];
     walk.copy_from_slice(groups);
-    turn(walk);
+    begin_at_lowest(walk);
     Walk::new(walk).unwrap()
 }
 
@@ -73,5 +73,5 @@ pub fn circuit(trail: &Trail, first: u8) -> Walk
     ensures sum { (edge : Edges) → sum_of edge result ≡ sum_of edge (cut first trail.now []) }
 {
     let groups = trail.groups();
-    turned(&groups[place_of(groups, first)..])
+    from_lowest(&groups[place_of(groups, first)..])
 }

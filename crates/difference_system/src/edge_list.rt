@@ -1,6 +1,6 @@
 //! The edges of a difference system, gathered once.
 ghost use Rattle.std.specs.Prelude.{◌≡◌, ◌+◌, ◌*◌, ◌<◌, ◌≤◌, ◌++◌, ◌∷◌, [], length};
-ghost use Rattle.difference_system.specs.Systems.{AreEdgesBelow};
+ghost use Rattle.difference_system.specs.Edge.{AreEdgesBelow};
 
 use crate::edge::Edge;
 use crate::system::System;
@@ -9,18 +9,18 @@ use crate::system::System;
 #[derive(Clone, Copy)]
 pub struct EdgeList<'a> {
     system: System<'a>,
-    edges: [Edge; 256],
+    edges: [Edge; 240],
     count: usize,
-    pub ghost few: { count ≤ 256 },
+    pub ghost few: { count ≤ 240 },
 }
 
 impl<'a> EdgeList<'a> {
-    ghost use Rattle.difference_system.specs.SystemParts.{groups_of, edges_of};
-    ghost use Rattle.difference_system.specs.EdgeLists.{listed, IsWhole};
+    ghost use Rattle.difference_system.specs.System.{groups_of, edges_of};
+    ghost use Rattle.difference_system.specs.EdgeList.{edges_in, IsWhole};
 
     fn new(system: System<'a>) -> EdgeList<'a>
         ensures system { result.system ≡ system.entry }
-        ensures edges { listed result ≡ [] }
+        ensures edges { edges_in result ≡ [] }
     {
         EdgeList {
             system,
@@ -28,15 +28,15 @@ impl<'a> EdgeList<'a> {
                 from: 0,
                 to: 0,
                 weight: 0,
-            }; 256],
+            }; 240],
             count: 0,
         }
     }
 
     fn push(&mut self, edge: Edge)
-        requires { length (listed self.old) < 256 }
+        requires { length (edges_in self.old) < 240 }
         ensures system { self.new.system ≡ self.old.system }
-        ensures edges { listed self.new ≡ listed self.old ++ edge ∷ [] }
+        ensures edges { edges_in self.new ≡ edges_in self.old ++ edge ∷ [] }
     {
         self.edges[self.count] = edge;
         self.count += 1;
@@ -44,11 +44,13 @@ impl<'a> EdgeList<'a> {
 
     fn push_row(&mut self, from: usize)
         requires from { from < groups_of self.old.system }
-        requires edges { AreEdgesBelow (groups_of self.old.system) (edges_of self.old.system) from (listed self.old) }
-        requires few { length (listed self.old) ≤ 16 * from }
+        requires edges { AreEdgesBelow (groups_of self.old.system) (edges_of self.old.system)
+            from (edges_in self.old) }
+        requires few { length (edges_in self.old) + 16 ≤ 16 * from }
         ensures system { self.new.system ≡ self.old.system }
-        ensures edges { AreEdgesBelow (groups_of self.old.system) (edges_of self.old.system) (from + 1) (listed self.new) }
-        ensures few { length (listed self.new) ≤ 16 * (from + 1) }
+        ensures edges { AreEdgesBelow (groups_of self.old.system) (edges_of self.old.system)
+            (from + 1) (edges_in self.new) }
+        ensures few { length (edges_in self.new) + 16 ≤ 16 * (from + 1) }
     {
         for to in 0..self.system.groups() {
             if let Some(edge) = self.system.edge(from, to) {
@@ -70,7 +72,7 @@ impl<'a> EdgeList<'a> {
     }
 
     pub fn edges(&self) -> &[Edge]
-        ensures { result.now ≡ listed self.now }
+        ensures { result.now ≡ edges_in self.now }
     {
         &self.edges[..self.count]
     }

@@ -1,6 +1,6 @@
 //! The starts of the groups, and the trails of edges that ask for them.
 ghost use Rattle.std.specs.Prelude.{◌≡◌, ◌<◌};
-ghost use Rattle.difference_system.specs.StateParts.{start_of, trail_of, blank, with_start};
+ghost use Rattle.difference_system.specs.State.{start_of, trail_of, blank, with_start};
 
 use crate::trail::Trail;
 

@@ -19,7 +19,7 @@ pub struct Trail {
 
 impl Model for Trail {
     ghost use Rattle.std.specs.Prelude.{ℕ, List, take, length, reverse};
-    ghost use Rattle.sig_base.specs.Padded.{IsPadded, padded_to};
+    ghost use Rattle.sig_base.specs.Padding.{IsPadded, padded_to};
 
     ghost Value = { List ℕ };
 
@@ -29,7 +29,7 @@ impl Model for Trail {
 
     ghost inverse = { λ groups. record { cells = padded_to 16 (reverse groups); len = length groups } };
 
-    ghost use Rattle.difference_system.specs.TrailBack.{fields_back};
+    ghost use Rattle.difference_system.specs.TrailFields.{fields_back};
 
     ghost inverse_ok = { fields_back };
 }

@@ -2,9 +2,9 @@ use Rattle.std.proofs.Common.{◌∷◌, ◌∙◌, ap, arith, rules}
 use Rattle.std.proofs.lemmas.Int.{ints}
 use Rattle.std.proofs.lemmas.Bool.{some_since}
 use Rattle.std.proofs.lemmas.Option.{MatchOption-at_some}
-use Rattle.difference_system.specs.SystemParts.{groups_of, edges_of}
-use Rattle.difference_system.proofs.Regular.{regular_of}
-use Rattle.difference_system.proofs.Beginning.{begun_none, begun_weight, begun_more}
+use Rattle.difference_system.specs.System.{groups_of, edges_of}
+use Rattle.difference_system.proofs.IsSystem.{regular_of}
+use Rattle.difference_system.proofs.IsState.{begun_none, begun_weight, begun_more}
 use Rattle.difference_system.proofs.begin.begin.Goals as goal
 
 pub unwrap-edge-requires : goal.unwrap-edge-requires

@@ -1,5 +1,5 @@
-use Rattle.difference_system.specs.SystemParts.{groups_of, edges_of}
-use Rattle.difference_system.specs.Trails.{IsStateBelow}
+use Rattle.difference_system.specs.System.{groups_of, edges_of}
+use Rattle.difference_system.specs.State.{IsStateBelow}
 use Rattle.difference_system.proofs.begin.begin.Given as goal
 
 abbrev pub invariant-loop-group : goal.invariant-loop-group

@@ -1,5 +1,5 @@
 use Rattle.std.proofs.Common.{◌≡◌, ◌≤◌, [], length, take, drop, reverse}
-use Rattle.difference_system.specs.Trails.{cut}
+use Rattle.difference_system.specs.Trail.{cut}
 use Rattle.difference_system.proofs.circuit.place_of.Given as goal
 
 abbrev pub invariant-loop-place : goal.invariant-loop-place

@@ -1,8 +1,8 @@
 use Rattle.std.proofs.Common.{ℕ, List, ◌∷◌, ◌≡◌, ◌<◌, ◌==◌, false, pos, arith, sym, ap, ◌∙◌}
 use Rattle.std.specs.List.{list_any}
 use Rattle.std.proofs.lemmas.Int.{ints}
-use Rattle.difference_system.specs.StateParts.{start_of, trail_of, with_start}
-use Rattle.difference_system.specs.Relaxing.{asked_by, IsRaise}
+use Rattle.difference_system.specs.State.{start_of, trail_of, with_start}
+use Rattle.difference_system.specs.Relax.{asked_by, IsRaise}
 use Rattle.difference_system.specs.declared.edge.Edge.{Edge}
 use Rattle.difference_system.specs.declared.state.State.{State}
 use Rattle.difference_system.proofs.relax.relax.Goals as goal

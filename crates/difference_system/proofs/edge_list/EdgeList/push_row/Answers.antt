@@ -1,11 +1,11 @@
 use Rattle.std.proofs.Common.{◌≡◌, ◌∙◌, None, subst, arith}
 use Rattle.std.proofs.lemmas.List.{length_push}
-use Rattle.difference_system.specs.Systems.{IsEdgeFrom, AreEdgesInRow}
-use Rattle.difference_system.specs.SystemParts.{groups_of, edges_of}
-use Rattle.difference_system.specs.EdgeLists.{listed}
+use Rattle.difference_system.specs.Edge.{IsEdgeFrom, AreEdgesInRow}
+use Rattle.difference_system.specs.System.{groups_of, edges_of}
+use Rattle.difference_system.specs.EdgeList.{edges_in}
 use Rattle.difference_system.specs.declared.system.System.{System}
-use Rattle.difference_system.proofs.Regular.{regular_of}
-use Rattle.difference_system.proofs.Gathering.{row_lacks, row_more, row_all}
+use Rattle.difference_system.proofs.IsSystem.{regular_of}
+use Rattle.difference_system.proofs.EdgeList.{row_lacks, row_more, row_all}
 use Rattle.difference_system.proofs.edge_list.EdgeList.push_row.Goals as goal
 use Rattle.difference_system.proofs.edge_list.EdgeList.push_row.Goals.{in-Some, in_default}
 
@@ -13,7 +13,7 @@ pub loop-to-preserved : goal.loop-to-preserved
 loop-to-preserved c =
     let s = c.args.self.now.system in
     let kept = c.loop-to.invariant in
-    let es = listed c.loop-to.self in
+    let es = edges_in c.loop-to.self in
     elim c.match-edge.branch [
       | in-Some w ↦
           let e = w.in-Some.edge in
@@ -38,5 +38,5 @@ returns-clause-edges c =
     let s = c.args.self.now.system in
     let kept = c.loop-to.invariant in
     let end : c.loop-to.to ≡ groups_of s = omega arith in
-    row_all (groups_of s) (edges_of s) c.args.from (listed c.loop-to.self) s.cycle (regular_of s)
-    (subst (λ to. AreEdgesInRow (groups_of s) (edges_of s) c.args.from to (listed c.loop-to.self)) end kept.edges)
+    row_all (groups_of s) (edges_of s) c.args.from (edges_in c.loop-to.self) s.cycle (regular_of s)
+    (subst (λ to. AreEdgesInRow (groups_of s) (edges_of s) c.args.from to (edges_in c.loop-to.self)) end kept.edges)

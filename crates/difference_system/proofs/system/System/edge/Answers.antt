@@ -1,8 +1,8 @@
 use Rattle.std.proofs.Common.{ℕ, ℤ, ◌≡◌, ◌<◌, Some, ap, ◌∙◌, sym, refl, subst, arith, w32, w64, to_z, of_z}
 use Rattle.std.proofs.lemmas.Int.{ints}
 use Rattle.constraint_cycles.specs.Edge.{Edges, IsWeight}
-use Rattle.difference_system.specs.Systems.{IsSystem, IsEdgeFrom, edge_of}
-use Rattle.difference_system.specs.SystemParts.{groups_of, edges_of}
+use Rattle.difference_system.specs.Edge.{IsSystem, IsEdgeFrom, edge_of}
+use Rattle.difference_system.specs.System.{groups_of, edges_of}
 use Rattle.difference_system.proofs.system.System.edge.Goals as goal
 
 edge_from : (groups cycle : ℕ) (edge : Edges) (u v : ℕ) (w weighed : ℤ) → IsSystem groups cycle edge → u < groups → v < groups →

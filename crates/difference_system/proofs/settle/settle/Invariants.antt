@@ -1,9 +1,0 @@
-use Rattle.difference_system.specs.SystemParts.{IsStateOf}
-use Rattle.difference_system.specs.Trails.{shortfall}
-use Rattle.difference_system.proofs.settle.settle.Given as goal
-
-abbrev pub invariant-loop-walk : goal.invariant-loop-walk
-invariant-loop-walk l = IsStateOf l.list.system l.state
-
-abbrev pub decreases-loop-walk : goal.decreases-loop-walk
-decreases-loop-walk l = shortfall l.state
