@@ -4,7 +4,7 @@ use Rattle.std.specs.Prelude.{Option, None, Some, ◌==◌, ◌||◌, ◌&&◌, 
 use Rattle.std.specs.Bool.{Decides}
 use Rattle.std.specs.Int.{bit_at}
 use Rattle.std.specs.Option.{option_map_or}
-use Rattle.std.proofs.lemmas.Bool.{and_parts, and_from, not-true, not-false, both_ways, eq-eqb, eqb-true, eqb-false, ne_eqb, ltb-true, leb-true, lt-ltb, le-leb}
+use Rattle.std.proofs.lemmas.Bool.{and_parts, and_from, not-true, not-false, both_ways, eq-eqb, eqb-true, eqb-false, ltb-true, leb-true, lt-ltb, le-leb}
 use Rattle.std.proofs.Math.Bool.{or_assoc}
 use Rattle.std.proofs.lemmas.Nat.{bit_set_by_shift}
 use Rattle.std.proofs.lemmas.Nat.Bits.{shr_and_one}
@@ -14,7 +14,7 @@ use Rattle.sig_base.specs.declared.target.Target.{Target}
 use Rattle.sig_base.specs.declared.target.Target.TheVariants.{Reach, Beat}
 use Rattle.flow_model.specs.declared.lane.Lane.{Lane}
 use Rattle.junction_model.specs.declared.group.Group.{Group}
-use Rattle.junction_model.specs.View.{JunctionView}
+use Rattle.junction_model.specs.Junction.{JunctionView}
 use Rattle.plan_model.specs.Multiplier.{Serves}
 use Rattle.plan_model.specs.Serving.{multiplier_under}
 use Rattle.least_greens.specs.Need.{IsEnough}
@@ -40,11 +40,8 @@ bit_tells n k =
 none_arrives : (n : ℕ) → (n == 0) ≡ true → 1 ≤ n → ⊥
 none_arrives n none some = omega (arith, eqb-true n 0 none)
 
-pub some_arrives : (n : ℕ) → (n == 0) ≡ false → 1 ≤ n
+some_arrives : (n : ℕ) → (n == 0) ≡ false → 1 ≤ n
 some_arrives n some = let none : n ≡ 0 → ⊥ = eqb-false n 0 some in grind arith
-
-pub no_zero : (n : ℕ) → 1 ≤ n → (n == 0) ≡ false
-no_zero n h = ne_eqb n 0 (λ none. omega arith)
 
 abbrev LaneServes : LaneSet → Target → ℕ → ℕ → Group → ℕ → ℕ → Lane → Type 0
 LaneServes lanes target cycle i group green k lane =
@@ -89,25 +86,28 @@ lanes_tell lanes target cycle i group green k (lane ∷ rest) =
     )
 
 group_tells : (junction : JunctionView) (lanes : LaneSet) (target : Target) (cycle i green : ℕ) (o : Option Group) → slice_get junction.groups i ≡ o →
-    Decides (option_map_or (λ (group : Group). nat_le group.times.min_green green && lanes_serve lanes target cycle i group green 0 junction.lanes) o true)
+    Decides (option_map_or (λ (group : Group). nat_le group.times.min_green green && nat_le green group.times.max_green && lanes_serve lanes target cycle i group green 0 junction.lanes) o true)
     (IsEnough junction lanes target cycle i green)
 group_tells junction lanes target cycle i green None is = (
-  λ _. record { minimum = λ group there. absurd (cc); serves = λ group k lane there asked. absurd (cc) },
+  λ _. record { minimum = λ group there. absurd (cc); maximum = λ group there. absurd (cc); serves = λ group k lane there asked. absurd (cc) },
   λ _. refl,
 )
 group_tells junction lanes target cycle i green (Some own) is =
     let each = lanes_tell lanes target cycle i own green 0 junction.lanes in (
       λ passes.
           let both = and_parts _ _ passes in
-          let long : own.times.min_green ≤ green = leb-true _ _ both.0 in
+          let range = and_parts _ _ both.0 in
+          let long : own.times.min_green ≤ green = leb-true _ _ range.0 in
+          let short : green ≤ own.times.max_green = leb-true _ _ range.1 in
           record {
             minimum = λ group there. let same : own ≡ group = cc in rw same at long;
+            maximum = λ group there. let same : own ≡ group = cc in rw same at short;
             serves = λ group k lane there asked. let same : own ≡ group = cc in
-                rw same at (each.0 both.1 k lane asked.there (rw (zero-add k) asked.chosen) asked.own asked.flowing);
+                rw same at (each.0 both.1 k lane asked.there (rw (zero-add k) asked.chosen) asked.own asked.arriving);
           },
       λ enough.
-          and_from _ _ (le-leb _ _ (enough.minimum own is))
-          (each.1 (λ k lane there chosen group flowing. enough.serves own k lane is (record { there = there; chosen = rw (zero-add k) at chosen; own = group; flowing = flowing }))),
+          and_from _ _ (and_from _ _ (le-leb _ _ (enough.minimum own is)) (le-leb _ _ (enough.maximum own is)))
+          (each.1 (λ k lane there chosen group arriving. enough.serves own k lane is (record { there = there; chosen = rw (zero-add k) at chosen; own = group; arriving = arriving }))),
     )
 
 pub enough_tells : (junction : JunctionView) (lanes : LaneSet) (target : Target) (cycle i green : ℕ) →

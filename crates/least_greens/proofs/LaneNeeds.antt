@@ -6,13 +6,11 @@ use Rattle.sig_base.specs.declared.lane_set.LaneSet.{LaneSet}
 use Rattle.sig_base.specs.declared.target.Target.{Target}
 use Rattle.flow_model.specs.declared.lane.Lane.{Lane}
 use Rattle.junction_model.specs.declared.group.Group.{Group}
-use Rattle.junction_model.specs.View.{JunctionView}
-use Rattle.junction_model.specs.Rules.{IsJunction}
+use Rattle.junction_model.specs.Junction.{JunctionView}
 use Rattle.plan_model.specs.Multiplier.{Serves}
 use Rattle.plan_model.specs.Serving.{multiplier_under}
 use Rattle.least_greens.specs.LeastFrom.{IsLeastFrom, ServesAt, ServesBelow, IsLaneNeed, IsNeedBelow}
 use Rattle.least_greens.specs.Need.{CountsForGroup, IsNeed}
-use Rattle.least_greens.proofs.PlanNeeds.{group_rules, group_there}
 
 pub asked_need : (junction : JunctionView) (lanes : LaneSet) (target : Target) (cycle i k least : ℕ) (group : Group) (lane : Lane) →
     slice_get junction.groups i ≡ Some group → CountsForGroup junction lanes i k lane →
@@ -66,16 +64,17 @@ pub with_lane : (junction : JunctionView) (lanes : LaneSet) (target : Target) (c
     IsNeedBelow junction lanes target cycle i (n + 1) (max need least)
 with_lane junction lanes target cycle i n need least = greater junction lanes target cycle i n need least (slice_get junction.groups i)
 
-need_of_group : (junction : JunctionView) (lanes : LaneSet) (target : Target) (cycle i n need : ℕ) (group : Group) → IsJunction junction →
-    slice_get junction.groups i ≡ Some group → length junction.lanes ≤ n → group.times.min_green ≤ need →
+-- the least green of all lanes is the need where the group may have it
+need_allowed : (junction : JunctionView) (lanes : LaneSet) (target : Target) (cycle i n need : ℕ) (group : Group) → 1 ≤ group.times.min_green →
+    slice_get junction.groups i ≡ Some group → length junction.lanes ≤ n → need ≤ group.times.max_green → group.times.min_green ≤ need →
     IsLeastFrom group.times.min_green (ServesBelow junction lanes target group.times cycle i n) need → IsNeed junction lanes target cycle i need
-need_of_group junction lanes target cycle i n need group rules there all long is =
-    let shown : 1 ≤ group.times.min_green = (group_rules junction i group rules there).times.shown in
+need_allowed junction lanes target cycle i n need group shown there all allowed long is =
     record {
       some = omega arith;
       most = is.most;
       enough = λ within. record {
         minimum = λ other also. let same : group ≡ other = cc in rw same at long;
+        maximum = λ other also. let same : group ≡ other = cc in rw same at allowed;
         serves = λ other k lane also asked.
             let same : group ≡ other = cc in
             let inside : k < length junction.lanes = slice_get_within junction.lanes k lane asked.there in
@@ -87,9 +86,29 @@ need_of_group junction lanes target cycle i n need group rules there all long is
           omega arith;
     }
 
-pub need_of_lanes : (junction : JunctionView) (lanes : LaneSet) (target : Target) (cycle i n need : ℕ) → IsJunction junction → i < length junction.groups →
-    length junction.lanes ≤ n → IsNeedBelow junction lanes target cycle i n need → IsNeed junction lanes target cycle i need
-need_of_lanes junction lanes target cycle i n need rules within all below =
-    let own = group_there junction i within in
-    let is = rw own.1 at below in
-    need_of_group junction lanes target cycle i n need own.0 rules own.1 all is.0 is.1
+-- and else no green is enough
+need_past : (junction : JunctionView) (lanes : LaneSet) (target : Target) (cycle i n need : ℕ) (group : Group) → slice_get junction.groups i ≡ Some group →
+    group.times.max_green < need → IsLeastFrom group.times.min_green (ServesBelow junction lanes target group.times cycle i n) need →
+    IsNeed junction lanes target cycle i 301
+need_past junction lanes target cycle i n need group there past is = record {
+  some = omega arith;
+  most = omega arith;
+  enough = λ within. absurd (omega arith);
+  least = λ green some below enough.
+      let least : need ≤ green = (is.exactly green (enough.minimum group there) (omega arith)).0 (λ k _ lane asked. enough.serves group k lane there asked) in
+      let most = enough.maximum group there in
+      omega arith;
+}
+
+pub allowed_need : (junction : JunctionView) (lanes : LaneSet) (target : Target) (cycle i n need : ℕ) (group : Group) → 1 ≤ group.times.min_green →
+    slice_get junction.groups i ≡ Some group → length junction.lanes ≤ n → need ≤ group.times.max_green → IsNeedBelow junction lanes target cycle i n need →
+    IsNeed junction lanes target cycle i need
+allowed_need junction lanes target cycle i n need group shown there all allowed below =
+    let is = rw there at below in
+    need_allowed junction lanes target cycle i n need group shown there all allowed is.0 is.1
+
+pub past_need : (junction : JunctionView) (lanes : LaneSet) (target : Target) (cycle i n need : ℕ) (group : Group) → slice_get junction.groups i ≡ Some group →
+    group.times.max_green < need → IsNeedBelow junction lanes target cycle i n need → IsNeed junction lanes target cycle i 301
+past_need junction lanes target cycle i n need group there past below =
+    let is = rw there at below in
+    need_past junction lanes target cycle i n need group there past is.1

@@ -1,7 +1,10 @@
-pub mod Order
-pub mod Searched
+pub mod TargetOrder
+pub mod FirstFrom
 pub mod Enough
-pub mod Needs
+pub mod NeedOf
 pub mod PlanNeeds
-pub mod Divided
+pub mod LeastEffective
 pub mod LaneNeeds
+pub mod Multipliers
+pub mod TargetBeside
+pub mod Closing

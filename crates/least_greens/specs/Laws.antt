@@ -6,12 +6,13 @@ use Rattle.sig_base.specs.declared.lane_set.LaneSet.{LaneSet}
 use Rattle.sig_base.specs.declared.ratio.Ratio.{Ratio}
 use Rattle.sig_base.specs.declared.target.Target.{Target}
 use Rattle.sig_base.specs.declared.target.Target.TheVariants.{Reach, Beat}
-use Rattle.junction_model.specs.View.{JunctionView}
+use Rattle.constraint_cycles.specs.Edge.{longest_green}
+use Rattle.junction_model.specs.Junction.{JunctionView}
 use Rattle.junction_model.specs.Rules.{IsJunction}
-use Rattle.plan_model.specs.Plan.{PlanView, green_of}
+use Rattle.plan_model.specs.SignalPlan.{PlanView, green_of}
 use Rattle.plan_model.specs.Fits.{Fits, group_count}
 use Rattle.plan_model.specs.Multiplier.{MeetsTarget, Serves}
-use Rattle.least_greens.specs.Need.{IsEnough, IsNeed}
+use Rattle.least_greens.specs.Need.{IsAllowed, IsEnough, IsNeed}
 use Rattle.least_greens.specs.NeedOf.{need_of}
 use Rattle.least_greens.specs.Targets.{IsNotAbove}
 
@@ -26,6 +27,7 @@ OneNeedLaw = (junction : JunctionView) (lanes : LaneSet) (target : Target) (cycl
 -- to reach a multiple stands below to beat it, and that below to reach a greater one
 abbrev pub TargetOrderLaw : Type 0
 TargetOrderLaw = (m n : Ratio) → IsNotAbove (Reach m) (Beat m) × (IsBelow (fraction_of m) (fraction_of n) → IsNotAbove (Beat m) (Reach n))
+    × (¬ IsNotAbove (Beat m) (Reach m))
 
 abbrev pub TransitiveLaw : Type 0
 TransitiveLaw = (s t u : Target) → IsNotAbove s t → IsNotAbove t u → IsNotAbove s u
@@ -42,9 +44,10 @@ abbrev pub RisingNeedLaw : Type 0
 RisingNeedLaw = (junction : JunctionView) (lanes : LaneSet) (s t : Target) (cycle i : ℕ) → 1 ≤ cycle → IsNotAbove s t →
     need_of junction lanes s cycle i ≤ need_of junction lanes t cycle i
 
--- a green is enough exactly where it is at least the need
+-- a green that a group may have is enough exactly where it is at least the need
 abbrev pub EnoughLaw : Type 0
-EnoughLaw = (junction : JunctionView) (lanes : LaneSet) (target : Target) (cycle i green : ℕ) → 1 ≤ green → green ≤ 300 →
+EnoughLaw = (junction : JunctionView) (lanes : LaneSet) (target : Target) (cycle i green : ℕ) → 1 ≤ green → green ≤ longest_green →
+    IsAllowed junction i green →
     IsEnough junction lanes target cycle i green ↔ (need_of junction lanes target cycle i ≤ green)
 
 -- a plan meets a target over a set of lanes exactly where it fits and no green is below its group's need

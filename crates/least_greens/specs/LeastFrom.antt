@@ -4,16 +4,17 @@ use Rattle.sig_base.specs.declared.group_times.GroupTimes.{GroupTimes}
 use Rattle.sig_base.specs.declared.lane_set.LaneSet.{LaneSet}
 use Rattle.sig_base.specs.declared.target.Target.{Target}
 use Rattle.flow_model.specs.declared.lane.Lane.{Lane}
+use Rattle.constraint_cycles.specs.Edge.{longest_green, unserved_need}
 use Rattle.junction_model.specs.declared.group.Group.{Group}
-use Rattle.junction_model.specs.View.{JunctionView}
+use Rattle.junction_model.specs.Junction.{JunctionView}
 use Rattle.plan_model.specs.Multiplier.{Serves}
 use Rattle.plan_model.specs.Serving.{multiplier_under}
 use Rattle.least_greens.specs.Need.{CountsForGroup}
 
 -- of the greens from the minimum to 300 seconds exactly those from `least` on serve; 301 where none does
 pub record IsLeastFrom (minimum : ℕ) (serves : ℕ → Type 0) (least : ℕ) : Type 0 where
-  pub most : least ≤ 301
-  pub exactly : (green : ℕ) → minimum ≤ green → green ≤ 300 → serves green ↔ (least ≤ green)
+  pub most : least ≤ unserved_need
+  pub exactly : (green : ℕ) → minimum ≤ green → green ≤ longest_green → serves green ↔ (least ≤ green)
 
 -- under this green of group i lane k serves, if it is asked
 abbrev pub ServesAt : JunctionView → LaneSet → Target → GroupTimes → ℕ → ℕ → ℕ → ℕ → Type 0

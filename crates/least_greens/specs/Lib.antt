@@ -1,7 +1,11 @@
 pub mod Need
 pub mod NeedOf
+pub mod ForTarget
 pub mod LeastFrom
 pub mod Targets
-pub mod Rule
-pub mod Rules
+pub mod NeedClosure
+pub mod NeedRule
 pub mod Laws
+pub mod MultiplierLaws
+pub mod BesideLaws
+pub mod ClosingLaws

@@ -1,5 +1,6 @@
 ghost use Rattle.std.specs.Prelude.{ℕ, ◌≡◌, ◌+◌, ◌*◌, ◌^◌, ◌<◌, ◌≤◌, ◌↔◌};
 ghost use Rattle.sig_base.specs.Ratio.{fraction_of};
+ghost use Rattle.sig_base.specs.Times.{IsCycle};
 ghost use Rattle.flow_model.specs.Lane.{AreFlows, lane_multiplier_of};
 ghost use Rattle.junction_model.specs.Rules.{IsGroup};
 ghost use Rattle.plan_model.specs.Multiplier.{Serves};
@@ -8,12 +9,12 @@ ghost use Rattle.least_greens.specs.LeastFrom.{IsLeastFrom};
 
 use flow_model::Lane;
 use junction_model::Group;
-use sig_base::{Ratio, Target};
+use sig_base::{NO_GREEN, Ratio, Target};
 
 /// What the multiple of the lane's arrivals asks in a cycle, in the measure of `served`.
 fn asked(lane: &Lane, multiple: Ratio, cycle: u32) -> u128
     requires flows { AreFlows lane.now }
-    requires longest { cycle ≤ 300 }
+    requires cycle { IsCycle cycle }
     ensures value { result ≡ (fraction_of multiple).num * (1000 * lane.now.arrival * cycle) }
     ensures small { result < 2 ^ 100 }
 {
@@ -32,8 +33,9 @@ fn served(lane: &Lane, multiple: Ratio) -> u128
 /// The least effective green in seconds with which the lane reaches the target's ratio, or exceeds it.
 fn least_effective(lane: &Lane, target: Target, cycle: u32) -> u128
     requires flows { AreFlows lane.now }
-    requires longest { cycle ≤ 300 }
-    ensures exactly { (effective : ℕ) → Serves target (lane_multiplier_of lane.now effective cycle) ↔ (result ≤ effective) }
+    requires cycle { IsCycle cycle }
+    ensures exactly { (effective : ℕ) →
+        Serves target (lane_multiplier_of lane.now effective cycle) ↔ (result ≤ effective) }
     ensures small { result ≤ 2 ^ 100 }
 {
     match target {
@@ -46,11 +48,12 @@ fn least_effective(lane: &Lane, target: Target, cycle: u32) -> u128
 pub fn least_green(lane: &Lane, group: &Group, target: Target, cycle: u32) -> u32
     requires flows { AreFlows lane.now }
     requires group { IsGroup group.now }
-    requires longest { cycle ≤ 300 }
-    ensures { IsLeastFrom group.now.times.min_green (λ green. Serves target (multiplier_under lane.now group.now.times cycle green)) result }
+    requires cycle { IsCycle cycle }
+    ensures { IsLeastFrom group.now.times.min_green
+        (λ green. Serves target (multiplier_under lane.now group.now.times cycle green)) result }
 {
     let shown = least_effective(lane, target, cycle) + u128::from(group.times.start_lost);
     shown
         .saturating_sub(u128::from(group.times.end_gain))
-        .min(301) as u32
+        .min(u128::from(NO_GREEN)) as u32
 }

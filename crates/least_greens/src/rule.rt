@@ -1,7 +1,8 @@
-ghost use Rattle.std.specs.Prelude.{◌≡◌, ◌<◌, ◌≤◌};
+ghost use Rattle.std.specs.Prelude.{◌≡◌, ◌<◌};
+ghost use Rattle.sig_base.specs.Times.{IsCycle};
 ghost use Rattle.plan_model.specs.Fits.{group_count};
 ghost use Rattle.least_greens.specs.NeedOf.{need_of};
-ghost use Rattle.least_greens.specs.Rule.{Answers, Answers-prop};
+ghost use Rattle.least_greens.specs.NeedClosure.{Answers, Answers-prop};
 
 use junction_model::Junction;
 use sig_base::{LaneSet, Target};
@@ -41,7 +42,7 @@ pub struct NeedRule<'j, F: Fn(Target, u32, usize) -> u32 + NeedClosure> {
 }
 
 impl<'j, F: Fn(Target, u32, usize) -> u32 + NeedClosure> NeedRule<'j, F> {
-    ghost use Rattle.least_greens.specs.Rules.{rule_junction, rule_lanes, rule_closure};
+    ghost use Rattle.least_greens.specs.NeedRule.{rule_junction, rule_lanes, rule_closure};
 
     /// A rule over a closure that may be asked every group's need at any cycle, and answers it.
     pub fn new(junction: &'j Junction, lanes: LaneSet, closure: F) -> NeedRule<'j, F>
@@ -57,12 +58,12 @@ impl<'j, F: Fn(Target, u32, usize) -> u32 + NeedClosure> NeedRule<'j, F> {
         }
     }
 
-    /// The need of the group at the cycle, in seconds: 301 where no green up to 300 is enough.
+    /// The need of the group at the cycle, in seconds: 301 where no green that the group may have is enough.
     pub fn ask(&self, target: Target, cycle: u32, group: usize) -> u32
-        requires some { 1 ≤ cycle }
-        requires longest { cycle ≤ 300 }
+        requires cycle { IsCycle cycle }
         requires group { group < group_count (rule_junction self.now) }
-        ensures need { result ≡ need_of (rule_junction self.now) (rule_lanes self.now) target cycle group }
+        ensures need { result ≡
+            need_of (rule_junction self.now) (rule_lanes self.now) target cycle group }
         ensures given { F.gives (rule_closure self.now) target cycle group result }
     {
         self.closure.call_need(target, cycle, group)

@@ -4,14 +4,14 @@ use Rattle.std.specs.Prelude.{Some, IsBitSet}
 use Rattle.std.proofs.lemmas.Nat.{bit_set_by_shift}
 use Rattle.std.proofs.lemmas.Nat.Bits.{shr_and_one, bit_at_ones}
 use Rattle.sig_base.specs.Fraction.{Fraction}
-use Rattle.junction_model.specs.View.{JunctionView}
+use Rattle.junction_model.specs.Junction.{JunctionView}
 use Rattle.junction_model.specs.Rules.{IsJunction}
-use Rattle.plan_model.specs.Plan.{PlanView}
+use Rattle.plan_model.specs.SignalPlan.{PlanView}
 use Rattle.plan_model.specs.Multiplier.{CountsAs, multiplier_at}
 use Rattle.plan_model.specs.AllLanes.{all_lanes, AllLanesTargetLaw, AllLanesMultiplierLaw}
 use Rattle.plan_model.proofs.LeastLane.{counts_within}
 
-chosen : (k : ℕ) → k < 32 → IsBitSet all_lanes.bits k
+pub chosen : (k : ℕ) → k < 32 → IsBitSet all_lanes.bits k
 chosen k few = (bit_set_by_shift all_lanes.bits k).0 (rw (shr_and_one all_lanes.bits k) (bit_at_ones 32 k few))
 
 counts : (junction : JunctionView) (p : PlanView) (k : ℕ) (own : Fraction) → IsJunction junction → multiplier_at junction p k ≡ Some own →
@@ -20,8 +20,8 @@ counts junction p k own rules is =
     let past : 32 ≤ k → ⊥ = λ late. counts_within junction p k own is (omega (arith, rules.lanes.few)) in
     record { chosen = chosen k (omega arith); multiplier = is }
 
-pub all_lanes_meet : AllLanesTargetLaw
-all_lanes_meet junction p r rules = (
+pub all_lanes_target_law : AllLanesTargetLaw
+all_lanes_target_law junction p r rules = (
   (
     λ meets. record { fits = meets.fits; reaches = λ k own is. meets.serves k own (counts junction p k own rules is) },
     λ meets. record { fits = meets.fits; serves = λ k own among. meets.reaches k own among.multiplier },
@@ -32,8 +32,8 @@ all_lanes_meet junction p r rules = (
   ),
 )
 
-pub all_lanes_multiply : AllLanesMultiplierLaw
-all_lanes_multiply junction p m rules = (
+pub all_lanes_multiplier_law : AllLanesMultiplierLaw
+all_lanes_multiplier_law junction p m rules = (
   λ is positive. record {
     positive = positive;
     reached = (is.reached.0, is.reached.1, is.reached.2.multiplier, is.reached.3);

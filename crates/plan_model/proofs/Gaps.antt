@@ -4,13 +4,14 @@ use Rattle.std.specs.Prelude.{Some, is_some}
 use Rattle.std.proofs.Math.Nat.{mod-lt, mod-eq_of_lt}
 use Rattle.std.proofs.lemmas.Bool.{cases_lt}
 use Rattle.conflict_matrix.specs.Matrix.{intergreen_of}
-use Rattle.junction_model.specs.View.{JunctionView}
+use Rattle.junction_model.specs.Junction.{JunctionView}
 use Rattle.junction_model.specs.Rules.{IsJunction}
-use Rattle.plan_model.specs.Plan.{PlanView, start_of, green_of}
+use Rattle.plan_model.specs.SignalPlan.{PlanView, start_of, green_of}
 use Rattle.plan_model.specs.Fits.{ClashesAt, IsClear, Fits, group_count}
 use Rattle.plan_model.specs.Gap.{gap, HasGaps, IsShown, IsSpaced, GapLaw, SpacingLaw}
 use Rattle.plan_model.proofs.Phase.{phase, phase_below, phase_start, phase_on, phase_round, phase_by, phase_at_gap, gaps_sum}
-use Rattle.plan_model.proofs.Shown.{some_value, each_shown, fits_shown, shown_start, shown_green}
+use Rattle.sig_base.proofs.Option.{some_value}
+use Rattle.plan_model.proofs.IsShown.{each_shown, fits_shown, shown_start, shown_green}
 
 -- in a gap that is too short, the last second of i's green that it holds, and how long j's start is after it
 last_second : (p : PlanView) (i j w : ℕ) → start_of p i < p.cycle → start_of p j < p.cycle → 1 ≤ green_of p i → 1 ≤ green_of p j →
@@ -81,8 +82,8 @@ clear_of_gaps junction p rules shown gaps i j w t hi hj is h =
     let other = gaps j i back.0 hj hi back.1 in
     clear_of_gap p i j w t (shown_start junction p i shown hi) (shown_start junction p j shown hj) (gaps i j w hi hj is) (omega (arith, other))
 
-pub clear_by_gaps : GapLaw
-clear_by_gaps junction p rules shown = (gaps_of_clear junction p shown, clear_of_gaps junction p rules shown)
+pub gap_law : GapLaw
+gap_law junction p rules shown = (gaps_of_clear junction p shown, clear_of_gaps junction p rules shown)
 
 spaced : (junction : JunctionView) (p : PlanView) → IsJunction junction → Fits junction p → IsSpaced junction p
 spaced junction p rules fits = record {
@@ -90,7 +91,9 @@ spaced junction p rules fits = record {
   cycle = fits.cycle;
   starts = fits.starts;
   greens = fits.greens;
+  longest = fits.longest;
   gaps = gaps_of_clear junction p (fits_shown junction p rules fits) fits.clear;
+  links = fits.links;
 }
 
 pub spaced_fits : (junction : JunctionView) (p : PlanView) → IsJunction junction → IsSpaced junction p → Fits junction p
@@ -99,8 +102,10 @@ spaced_fits junction p rules apart = record {
   cycle = apart.cycle;
   starts = apart.starts;
   greens = apart.greens;
+  longest = apart.longest;
   clear = clear_of_gaps junction p rules (each_shown junction p rules apart.groups apart.cycle apart.starts apart.greens) apart.gaps;
+  links = apart.links;
 }
 
-pub fits_by_gaps : SpacingLaw
-fits_by_gaps junction p rules = (spaced junction p rules, spaced_fits junction p rules)
+pub spacing_law : SpacingLaw
+spacing_law junction p rules = (spaced junction p rules, spaced_fits junction p rules)

@@ -1,17 +1,21 @@
 -- The least multiplier of the lanes so far, with one lane more.
 use Rattle.std.proofs.Common.{ℕ, ◌≡◌, ◌+◌, ◌<◌, ◌≤◌, ◌⊎◌, length, inl, inr, arith, refl, sym, subst, below_more}
 use Rattle.std.proofs.lemmas.Bool.{cases_lt}
-use Rattle.std.specs.Prelude.{Option, None, Some, MatchOption}
-use Rattle.std.proofs.lemmas.Option.{slice_get_past}
+use Rattle.std.specs.Prelude.{Option, None, Some}
+use Rattle.std.proofs.lemmas.Option.{slice_get_past, slice_get_within}
 use Rattle.sig_base.specs.Fraction.{Fraction, IsSameFraction, IsAtMost}
 use Rattle.sig_base.specs.Ratio.{fraction_of}
 use Rattle.sig_base.specs.declared.lane_set.LaneSet.{LaneSet}
 use Rattle.sig_base.specs.declared.ratio.Ratio.{Ratio}
-use Rattle.junction_model.specs.View.{JunctionView}
-use Rattle.plan_model.specs.Plan.{PlanView}
-use Rattle.plan_model.specs.Multiplier.{CountsAs, IsLeastMultiplier, multiplier_at}
-use Rattle.plan_model.specs.Least.{CountsNot, CountsFor, IsLeastBelow, IsFoundBelow}
-use Rattle.plan_model.proofs.Fractions.{at_most_same, at_most_trans}
+use Rattle.junction_model.specs.Junction.{JunctionView}
+use Rattle.junction_model.specs.Rules.{IsJunction}
+use Rattle.plan_model.specs.SignalPlan.{PlanView, green_of}
+use Rattle.plan_model.specs.Multiplier.{CountsAs, multiplier_at}
+use Rattle.plan_model.specs.Least.{CountsNot, CountsFor, IsLeastBelow, FoundBelow}
+use Rattle.plan_model.specs.Serving.{multiplier_under}
+use Rattle.plan_model.specs.MultiplierLaws.{HasFlow, LeastMultiplierOrNone}
+use Rattle.plan_model.proofs.LaneMultiplier.{lane_group, multiplier_of}
+use Rattle.sig_base.proofs.Fraction.{at_most_same, at_most_trans}
 
 abbrev IsAtMostEach : JunctionView → PlanView → LaneSet → Fraction → ℕ → Type 0
 IsAtMostEach junction p lanes m k = (own : Fraction) → CountsAs junction p lanes k own → IsAtMost m own
@@ -24,8 +28,8 @@ at_most_own junction p lanes m k made own counts =
     let same : made.0 ≡ own = cc in
     at_most_same m own (subst (λ f. IsSameFraction m f) same made.2)
 
-pub found_none : (junction : JunctionView) (p : PlanView) (lanes : LaneSet) (n : ℕ) (found : Option Ratio) → IsFoundBelow junction p lanes n found →
-    CountsNot junction p lanes n → IsFoundBelow junction p lanes (n + 1) found
+pub found_none : (junction : JunctionView) (p : PlanView) (lanes : LaneSet) (n : ℕ) (found : Option Ratio) → FoundBelow junction p lanes n found →
+    CountsNot junction p lanes n → FoundBelow junction p lanes (n + 1) found
 found_none junction p lanes n None below not = below_more (CountsNot junction p lanes) n below not
 found_none junction p lanes n (Some r) below not = record {
   reached = below.reached;
@@ -60,12 +64,25 @@ pub counts_within : (junction : JunctionView) (p : PlanView) (k : ℕ) (own : Fr
 counts_within junction p k own is past =
     let none : multiplier_at junction p k ≡ None = rw (slice_get_past junction.lanes k past) refl in cc
 
-pub found_all : (junction : JunctionView) (p : PlanView) (lanes : LaneSet) (n : ℕ) (found : Option Ratio) → length junction.lanes ≤ n →
-    IsFoundBelow junction p lanes n found →
-    MatchOption found ((k : ℕ) (own : Fraction) → ¬ CountsAs junction p lanes k own) (λ r. IsLeastMultiplier junction p lanes (fraction_of r))
-found_all junction p lanes n None all below = λ k own counts.
-    elim (cases_lt k n) [ inl w ↦ below k w own counts | inr w ↦ counts_within junction p k own counts.multiplier (omega arith) ]
-found_all junction p lanes n (Some r) all below = record {
+-- a lane with an arrival counts
+pub flow_counts : (junction : JunctionView) (p : PlanView) (lanes : LaneSet) → IsJunction junction → (flow : HasFlow junction lanes) →
+    (own : Fraction) × CountsAs junction p lanes flow.number own
+flow_counts junction p lanes rules flow =
+    let group = lane_group junction flow.number flow.lane rules flow.there in (
+      multiplier_under flow.lane group.0.times p.cycle (green_of p flow.lane.group),
+      record {
+        chosen = flow.chosen;
+        multiplier = multiplier_of junction p flow.number flow.lane group.0 flow.there group.1 flow.arrives;
+      },
+    )
+
+pub found_all : (junction : JunctionView) (p : PlanView) (lanes : LaneSet) (n : ℕ) (found : Option Ratio) → IsJunction junction → length junction.lanes ≤ n →
+    FoundBelow junction p lanes n found → LeastMultiplierOrNone junction p lanes found
+found_all junction p lanes n None rules all below = λ flow.
+    let own = flow_counts junction p lanes rules flow in
+    let inside = slice_get_within junction.lanes flow.number flow.lane flow.there in
+    below flow.number (omega arith) own.0 own.1
+found_all junction p lanes n (Some r) rules all below = record {
   reached = (below.reached.0, below.reached.1.0, below.reached.1.1, below.reached.1.2);
   least = λ k own counts. elim (cases_lt k n) [
     | inl w ↦ below.least k own w counts

@@ -54,17 +54,17 @@ both_gaps c s r x y p q f g = grind arith
 pub gaps_sum : (c s r : ℕ) → s < c → r < c → phase c s r + phase c r s ≤ c
 gaps_sum c s r p q = both_gaps c s r _ _ p q (once c (r + c - s) (omega arith)) (once c (s + c - r) (omega arith))
 
-turned_gap : (c s r b x y m n : ℕ) → s < c → r < c → b < c → IsOnce c (s + b) x → IsOnce c (r + b) y →
+rotated_gap : (c s r b x y m n : ℕ) → s < c → r < c → b < c → IsOnce c (s + b) x → IsOnce c (r + b) y →
     IsOnce c (y + c - x) m → IsOnce c (r + c - s) n → m ≡ n
-turned_gap c s r b x y m n p q k hx hy hm hn = grind arith
+rotated_gap c s r b x y m n p q k hx hy hm hn = grind arith
 
-pub phase_turned : (c s r b : ℕ) → s < c → r < c → phase c ((s + b) % c) ((r + b) % c) ≡ phase c s r
-phase_turned c s r b p q =
+pub phase_rotated : (c s r b : ℕ) → s < c → r < c → phase c ((s + b) % c) ((r + b) % c) ≡ phase c s r
+phase_rotated c s r b p q =
     let some : 1 ≤ c = omega arith in
     let least : b % c < c = mod-lt b some in
     let es : (s + b % c) % c ≡ (s + b) % c = add-mod-mod s b c in
     let er : (r + b % c) % c ≡ (r + b) % c = add-mod-mod r b c in
     let less_s : (s + b % c) % c < c = mod-lt (s + b % c) some in
     let less_r : (r + b % c) % c < c = mod-lt (r + b % c) some in
-    rw (← es, ← er) (turned_gap c s r (b % c) _ _ _ _ p q least (once c (s + b % c) (omega arith)) (once c (r + b % c) (omega arith))
+    rw (← es, ← er) (rotated_gap c s r (b % c) _ _ _ _ p q least (once c (s + b % c) (omega arith)) (once c (r + b % c) (omega arith))
     (once c ((r + b % c) % c + c - (s + b % c) % c) (omega arith)) (once c (r + c - s) (omega arith)))

@@ -5,9 +5,9 @@ use Rattle.sig_base.specs.Ratio.{fraction_of}
 use Rattle.sig_base.specs.declared.lane_set.LaneSet.{LaneSet}
 use Rattle.sig_base.specs.declared.ratio.Ratio.{Ratio}
 use Rattle.sig_base.specs.declared.target.Target.TheVariants.{Reach, Beat}
-use Rattle.junction_model.specs.View.{JunctionView}
+use Rattle.junction_model.specs.Junction.{JunctionView}
 use Rattle.junction_model.specs.Rules.{IsJunction}
-use Rattle.plan_model.specs.Plan.{PlanView}
+use Rattle.plan_model.specs.SignalPlan.{PlanView}
 use Rattle.plan_model.specs.Multiplier.{IsLeastMultiplier, Meets, Beats, MeetsTarget}
 use Rattle.plan_model.specs.Claims.{IsPlanMultiplier}
 

@@ -1,9 +1,10 @@
 -- Plans that fit a junction, second by second.
-use Rattle.std.specs.Prelude.{ℕ, length, Some, ◌≡◌, ◌+◌, ◌<◌, ◌≤◌, All, slice_get}
+use Rattle.std.specs.Prelude.{ℕ, length, Some, ◌≡◌, ◌+◌, ◌%◌, ◌<◌, ◌≤◌, All, slice_get}
 use Rattle.conflict_matrix.specs.Matrix.{intergreen_of}
+use Rattle.conflict_matrix.specs.declared.link.Link.{Link}
 use Rattle.junction_model.specs.declared.group.Group.{Group}
-use Rattle.junction_model.specs.View.{JunctionView}
-use Rattle.plan_model.specs.Plan.{PlanView, GreenAt, green_of}
+use Rattle.junction_model.specs.Junction.{JunctionView}
+use Rattle.plan_model.specs.SignalPlan.{PlanView, GreenAt, start_of, green_of}
 
 abbrev pub group_count : JunctionView → ℕ
 group_count junction = length junction.groups
@@ -30,9 +31,15 @@ pub record HasEachGroup (junction : JunctionView) (p : PlanView) : Type 0 where
   pub starts : length p.starts ≡ group_count junction
   pub greens : length p.greens ≡ group_count junction
 
+-- the follower starts as long after the leader as the link says, round the cycle
+abbrev pub KeepsLink : PlanView → Link → Type 0
+KeepsLink p link = start_of p link.follower ≡ (start_of p link.leader + link.after) % p.cycle
+
 pub record Fits (junction : JunctionView) (p : PlanView) : Type 0 where
   pub groups : HasEachGroup junction p
   pub cycle : IsWithinLimits junction p
   pub starts : All (λ start. start < p.cycle) p.starts
   pub greens : (i : ℕ) (group : Group) → slice_get junction.groups i ≡ Some group → group.times.min_green ≤ green_of p i
+  pub longest : (i : ℕ) (group : Group) → slice_get junction.groups i ≡ Some group → green_of p i ≤ group.times.max_green
   pub clear : IsClear junction p
+  pub links : All (KeepsLink p) junction.conflicts.links

@@ -9,8 +9,8 @@ use Rattle.sig_base.specs.declared.target.Target.TheVariants.{Reach, Beat}
 use Rattle.flow_model.specs.declared.lane.Lane.{Lane}
 use Rattle.flow_model.specs.Lane.{effective_green, lane_multiplier_of}
 use Rattle.junction_model.specs.declared.group.Group.{Group}
-use Rattle.junction_model.specs.View.{JunctionView}
-use Rattle.plan_model.specs.Plan.{PlanView, green_of}
+use Rattle.junction_model.specs.Junction.{JunctionView}
+use Rattle.plan_model.specs.SignalPlan.{PlanView, green_of}
 use Rattle.plan_model.specs.Fits.{Fits}
 
 -- the multiplier of a lane under its group's green; none where nothing arrives

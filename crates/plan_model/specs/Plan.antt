@@ -1,19 +1,7 @@
--- A signal plan as plain data, and when a group of it is green: made after the design by signal groups of
--- Improta and Cantarella (1984) and of Gallivan and Heydecker (1988), in whole seconds.
-use Rattle.std.specs.Prelude.{ℕ, List, ◌+◌, ◌-◌, ◌%◌, ◌<◌, slice_index}
+-- What contracts see of a plan.
+use Rattle.std.specs.Prelude.{take}
+use Rattle.plan_model.specs.SignalPlan.{PlanView}
+use Rattle.plan_model.specs.declared.plan.Plan.{Plan}
 
--- the cycle, and the start and the green of each group, all in seconds
-pub record PlanView : Type 0 where
-  pub cycle : ℕ
-  pub starts : List ℕ
-  pub greens : List ℕ
-
-abbrev pub start_of : PlanView → ℕ → ℕ
-start_of p i = slice_index p.starts i
-
-abbrev pub green_of : PlanView → ℕ → ℕ
-green_of p i = slice_index p.greens i
-
--- group i is green at second t, for each t from 0 on
-abbrev pub GreenAt : PlanView → ℕ → ℕ → Type 0
-GreenAt p i t = (t + p.cycle - start_of p i) % p.cycle < green_of p i
+abbrev pub plan_of : Plan → PlanView
+plan_of p = record { cycle = p.cycle; starts = take p.count p.starts; greens = take p.count p.greens }

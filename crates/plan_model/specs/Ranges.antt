@@ -1,7 +1,7 @@
 -- A plan whose starts can be told round its cycle.
 use Rattle.sig_base.specs.First.{NoneBelow}
-use Rattle.junction_model.specs.View.{JunctionView}
-use Rattle.plan_model.specs.Plan.{PlanView}
+use Rattle.junction_model.specs.Junction.{JunctionView}
+use Rattle.plan_model.specs.SignalPlan.{PlanView}
 use Rattle.plan_model.specs.Fits.{HasEachGroup, IsWithinLimits, group_count}
 use Rattle.plan_model.specs.FirstFault.{StartsLate}
 

@@ -6,8 +6,8 @@ use Rattle.sig_base.specs.declared.lane_set.LaneSet.{LaneSet}
 use Rattle.sig_base.specs.declared.target.Target.{Target}
 use Rattle.flow_model.specs.declared.lane.Lane.{Lane}
 use Rattle.flow_model.specs.Lane.{effective_green, lane_multiplier_of}
-use Rattle.junction_model.specs.View.{JunctionView}
-use Rattle.plan_model.specs.Plan.{PlanView, green_of}
+use Rattle.junction_model.specs.Junction.{JunctionView}
+use Rattle.plan_model.specs.SignalPlan.{PlanView, green_of}
 use Rattle.plan_model.specs.Fits.{group_count}
 use Rattle.plan_model.specs.Multiplier.{CountsAs, Reaches, Serves}
 

@@ -1,8 +1,8 @@
 -- Plans with shorter greens.
 use Rattle.std.specs.Prelude.{ℕ, length, Some, ◌≡◌, ◌<◌, ◌≤◌, slice_get}
 use Rattle.junction_model.specs.declared.group.Group.{Group}
-use Rattle.junction_model.specs.View.{JunctionView}
-use Rattle.plan_model.specs.Plan.{PlanView, green_of}
+use Rattle.junction_model.specs.Junction.{JunctionView}
+use Rattle.plan_model.specs.SignalPlan.{PlanView, green_of}
 use Rattle.plan_model.specs.Fits.{Fits, group_count}
 
 -- the cycle and the starts of p, and each green between the group's minimum and that of p

@@ -9,4 +9,8 @@ pub enum PlanFault {
     MinGreen(u32),
     /// The first group is green at this second, and the second one then or within the intergreen.
     Clash(u32, u32, u32),
+    /// The group's green is above its maximum.
+    MaxGreen(u32),
+    /// The link doesn't hold; its index from 0.
+    Link(u32),
 }

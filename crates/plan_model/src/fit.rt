@@ -1,20 +1,21 @@
-ghost use Rattle.std.specs.Prelude.{◌↔◌, IsOk, MatchResult};
+ghost use Rattle.std.specs.Prelude.{◌↔◌, IsOk};
 ghost use Rattle.plan_model.specs.Fits.{HasEachGroup, Fits};
-ghost use Rattle.plan_model.specs.FirstFault.{IsFirstFault};
-ghost use Rattle.plan_model.specs.Plans.{plan_of};
+ghost use Rattle.plan_model.specs.FirstFault.{FitsOrFirstFault};
+ghost use Rattle.plan_model.specs.Plan.{plan_of};
 
 use crate::clash::first_clash;
 use crate::fault::PlanFault;
+use crate::links::first_broken_link;
 use crate::plan::Plan;
-use crate::range::{first_late_start, first_short_green, is_within_limits};
+use crate::range::{first_late_start, first_long_green, first_short_green, is_within_limits};
 use junction_model::Junction;
 
 /// Whether the plan fits the junction, or the first fault. Each kind of fault is tested over all
-/// groups before the next, in the order of `PlanFault`'s variants.
+/// groups, or links, before the next, in the order of `PlanFault`'s variants.
 pub fn fits(junction: &Junction, plan: &Plan) -> Result<(), PlanFault>
     requires { HasEachGroup junction.now (plan_of plan.now) }
     ensures exactly { IsOk result ↔ Fits junction.now (plan_of plan.now) }
-    ensures answer { MatchResult result (λ _. Fits junction.now (plan_of plan.now)) (IsFirstFault junction.now (plan_of plan.now)) }
+    ensures answer { FitsOrFirstFault junction.now (plan_of plan.now) result }
 {
     if !is_within_limits(junction, plan) {
         return Err(PlanFault::CycleLimit);
@@ -27,6 +28,12 @@ pub fn fits(junction: &Junction, plan: &Plan) -> Result<(), PlanFault>
     }
     if let Some((i, j, second)) = first_clash(junction, plan) {
         return Err(PlanFault::Clash(i, j, second));
+    }
+    if let Some(i) = first_long_green(junction, plan) {
+        return Err(PlanFault::MaxGreen(i));
+    }
+    if let Some(k) = first_broken_link(junction, plan) {
+        return Err(PlanFault::Link(k));
     }
     Ok(())
 }

@@ -1,7 +1,8 @@
 ghost use Rattle.std.specs.Prelude.{◌↔◌, ◌<◌, ◌≤◌, length, IsTrue};
-ghost use Rattle.plan_model.specs.Plan.{GreenAt, start_of};
+ghost use Rattle.sig_base.specs.Times.{IsCycle};
+ghost use Rattle.plan_model.specs.SignalPlan.{GreenAt, start_of};
 ghost use Rattle.plan_model.specs.Fits.{GreenWithin};
-ghost use Rattle.plan_model.specs.Plans.{plan_of};
+ghost use Rattle.plan_model.specs.Plan.{plan_of};
 
 use crate::plan::Plan;
 
@@ -9,7 +10,7 @@ pub fn is_green(plan: &Plan, group: usize, second: u32) -> bool
     requires start { group < length (plan_of plan.now).starts }
     requires green { group < length (plan_of plan.now).greens }
     requires early { start_of (plan_of plan.now) group < (plan_of plan.now).cycle }
-    requires cycle { (plan_of plan.now).cycle ≤ 300 }
+    requires cycle { IsCycle (plan_of plan.now).cycle }
     requires second { second ≤ 1000 }
     ensures { IsTrue result ↔ GreenAt (plan_of plan.now) group second }
 {
@@ -21,7 +22,7 @@ pub fn is_green_within(plan: &Plan, group: usize, wait: u32, second: u32) -> boo
     requires start { group < length (plan_of plan.now).starts }
     requires green { group < length (plan_of plan.now).greens }
     requires early { start_of (plan_of plan.now) group < (plan_of plan.now).cycle }
-    requires cycle { (plan_of plan.now).cycle ≤ 300 }
+    requires cycle { IsCycle (plan_of plan.now).cycle }
     requires wait { wait ≤ 60 }
     requires second { second < 300 }
     ensures { IsTrue result ↔ GreenWithin (plan_of plan.now) group wait second }

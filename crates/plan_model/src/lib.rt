@@ -6,19 +6,22 @@
 mod clash;
 mod fault;
 mod fit;
-mod fitted;
+mod fitted_plan;
 mod green;
 mod laws;
 mod least_multiplier;
+mod links;
 mod plan;
 mod range;
+mod rotation;
 
 pub use fault::PlanFault;
 pub use fit::fits;
-pub use fitted::FittedPlan;
-pub use laws::{all_lanes_law, gap_law, longest_law, serving_law, shortening_law, turning_law};
+pub use fitted_plan::FittedPlan;
+pub use laws::{
+    all_lanes_law, closed_tree_law, full_order_fits_law, gap_law, green_below_cycle_law,
+    multiplier_law, optimal_law, own_order_law, rotation_law, serving_law, shortening_law,
+};
 pub use least_multiplier::{ALL_LANES, multiplier};
 pub use plan::Plan;
-
-#[cfg(test)]
-mod tests;
+pub use rotation::rotate;

@@ -15,13 +15,14 @@ pub struct Plan {
 }
 
 impl Plan {
-    ghost use Rattle.plan_model.specs.Plans.{plan_of};
+    ghost use Rattle.plan_model.specs.SignalPlan.{plan_with, AreOfGroups};
+    ghost use Rattle.plan_model.specs.Plan.{plan_of};
 
     /// The plan of a cycle with these starts and greens, all in seconds; `None` exactly where the two
     /// lists differ in length or the length is outside 2 to 16.
     pub fn new(cycle: u32, starts: &[u32], greens: &[u32]) -> Option<Plan>
-        ensures exactly { IsSome result ↔ ((length starts.now ≡ length greens.now) × (2 ≤ length starts.now) × (length starts.now ≤ 16)) }
-        ensures value { IfSome result (λ p. plan_of p ≡ record { cycle = cycle; starts = starts.now; greens = greens.now }) }
+        ensures exactly { IsSome result ↔ AreOfGroups starts.now greens.now }
+        ensures value { IfSome result (λ p. plan_of p ≡ plan_with cycle starts.now greens.now) }
     {
         let count = starts.len();
         if greens.len() != count || !(2..=16).contains(&count) {

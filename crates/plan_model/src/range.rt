@@ -1,8 +1,7 @@
-ghost use Rattle.std.specs.Prelude.{◌↔◌, IsTrue, MatchOption};
-ghost use Rattle.sig_base.specs.First.{NoneBelow, IsFirst};
-ghost use Rattle.plan_model.specs.Fits.{HasEachGroup, IsWithinLimits, group_count};
-ghost use Rattle.plan_model.specs.FirstFault.{StartsLate, IsGreenShort};
-ghost use Rattle.plan_model.specs.Plans.{plan_of};
+ghost use Rattle.std.specs.Prelude.{◌↔◌, IsTrue};
+ghost use Rattle.plan_model.specs.Fits.{HasEachGroup, IsWithinLimits};
+ghost use Rattle.plan_model.specs.FirstFault.{FirstGroupOrNone, StartsLate, IsGreenShort, IsGreenLong};
+ghost use Rattle.plan_model.specs.Plan.{plan_of};
 
 use crate::plan::Plan;
 use junction_model::Junction;
@@ -15,7 +14,7 @@ pub fn is_within_limits(junction: &Junction, plan: &Plan) -> bool
 
 pub fn first_late_start(junction: &Junction, plan: &Plan) -> Option<u32>
     requires { HasEachGroup junction.now (plan_of plan.now) }
-    ensures { MatchOption result (NoneBelow (StartsLate (plan_of plan.now)) (group_count junction.now)) (λ i. IsFirst (StartsLate (plan_of plan.now)) (group_count junction.now) i) }
+    ensures { FirstGroupOrNone junction.now (StartsLate (plan_of plan.now)) result }
 {
     for i in 0..junction.groups().len() {
         if plan.cycle() <= plan.starts()[i] {
@@ -27,10 +26,22 @@ pub fn first_late_start(junction: &Junction, plan: &Plan) -> Option<u32>
 
 pub fn first_short_green(junction: &Junction, plan: &Plan) -> Option<u32>
     requires { HasEachGroup junction.now (plan_of plan.now) }
-    ensures { MatchOption result (NoneBelow (IsGreenShort junction.now (plan_of plan.now)) (group_count junction.now)) (λ i. IsFirst (IsGreenShort junction.now (plan_of plan.now)) (group_count junction.now) i) }
+    ensures { FirstGroupOrNone junction.now (IsGreenShort junction.now (plan_of plan.now)) result }
 {
     for i in 0..junction.groups().len() {
         if plan.greens()[i] < junction.groups()[i].times.min_green {
+            return Some(i as u32);
+        }
+    }
+    None
+}
+
+pub fn first_long_green(junction: &Junction, plan: &Plan) -> Option<u32>
+    requires { HasEachGroup junction.now (plan_of plan.now) }
+    ensures { FirstGroupOrNone junction.now (IsGreenLong junction.now (plan_of plan.now)) result }
+{
+    for i in 0..junction.groups().len() {
+        if junction.groups()[i].times.max_green < plan.greens()[i] {
             return Some(i as u32);
         }
     }

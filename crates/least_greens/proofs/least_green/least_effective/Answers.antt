@@ -1,4 +1,4 @@
-use Rattle.least_greens.proofs.Divided.{reached_by, beaten_by}
+use Rattle.least_greens.proofs.LeastEffective.{reached_by, beaten_by}
 use Rattle.least_greens.proofs.least_green.least_effective.Goals as goal
 
 pub returns-in-Reach-clause-exactly : goal.returns-in-Reach-clause-exactly

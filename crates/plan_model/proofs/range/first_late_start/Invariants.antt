@@ -1,5 +1,5 @@
 use Rattle.sig_base.specs.First.{NoneBelow}
-use Rattle.plan_model.specs.Plans.{plan_of}
+use Rattle.plan_model.specs.Plan.{plan_of}
 use Rattle.plan_model.specs.FirstFault.{StartsLate}
 use Rattle.plan_model.proofs.range.first_late_start.Given as goal
 

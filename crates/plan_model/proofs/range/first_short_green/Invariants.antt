@@ -1,5 +1,5 @@
 use Rattle.sig_base.specs.First.{NoneBelow}
-use Rattle.plan_model.specs.Plans.{plan_of}
+use Rattle.plan_model.specs.Plan.{plan_of}
 use Rattle.plan_model.specs.FirstFault.{IsGreenShort}
 use Rattle.plan_model.proofs.range.first_short_green.Given as goal
 

@@ -1,5 +1,5 @@
 use Rattle.std.proofs.Common.{rules}
-use Rattle.least_greens.specs.Rule.{IsQuestion}
+use Rattle.least_greens.specs.NeedClosure.{IsQuestion}
 use Rattle.least_greens.proofs.rule.NeedRule.ask.Goals as goal
 
 pub returns-clause-need : goal.returns-clause-need

@@ -1,6 +1,0 @@
-use Rattle.least_greens.specs.Rule.{IsQuestion-prop}
-use Rattle.least_greens.proofs.tests.rules.a_rule_over_a_rule.Goals as goal
-
-pub asked_twice-found-requires-clause-answers : goal.asked_twice-found-requires-clause-answers
-asked_twice-found-requires-clause-answers g c =
-    λ target cycle group question. ((IsQuestion-prop c.in_ok-junction.junction target cycle group, question), λ given is. is.1)

@@ -1,3 +1,0 @@
-mod junctions;
-mod needs;
-mod rules;

@@ -1,0 +1,30 @@
+-- Why no green of a plan that fits fills the cycle.
+use Rattle.std.proofs.Common.{ℕ, ◌<◌, ◌≤◌, arith, add-zero}
+use Rattle.conflict_matrix.specs.Matrix.{intergreen_of}
+use Rattle.junction_model.specs.Junction.{JunctionView}
+use Rattle.junction_model.specs.Rules.{IsJunction}
+use Rattle.plan_model.specs.SignalPlan.{PlanView, start_of, green_of}
+use Rattle.plan_model.specs.Fits.{Fits, group_count}
+use Rattle.plan_model.specs.GreenBelowCycle.{GreenBelowCycleLaw}
+use Rattle.plan_model.proofs.Phase.{phase_below, phase_start}
+use Rattle.sig_base.proofs.Option.{some_value}
+use Rattle.plan_model.proofs.IsShown.{fits_shown, shown_start, shown_green}
+
+-- at the start of a conflicting group, a green that fills the cycle shows too
+pub green_below_cycle_law : GreenBelowCycleLaw
+green_below_cycle_law junction p i rules fits h =
+    let shown = fits_shown junction p rules fits in
+    let same = rules.conflicts.same_groups in
+    let partner = rules.conflicts.partnered i (omega (arith, same)) in
+    let there : partner.0 < group_count junction = omega (arith, same, partner.1) in
+    let wait = some_value (intergreen_of junction.conflicts i partner.0) partner.2 in
+    let start = start_of p partner.0 in
+    let early : start < p.cycle = shown_start junction p partner.0 shown there in
+    let shows : 1 ≤ green_of p partner.0 = shown_green junction p partner.0 shown there in
+    let apart : p.cycle ≤ green_of p i → ⊥ = λ full. fits.clear i partner.0 wait.0 start h there wait.1 early
+    (omega (arith, phase_below p.cycle (start_of p i) start (omega arith)), (0, omega arith, rw (add-zero start, phase_start p.cycle start) shows)) in
+    omega arith
+
+pub green_most : (junction : JunctionView) (p : PlanView) (i : ℕ) → IsJunction junction → Fits junction p → i < group_count junction → green_of p i ≤ 300
+green_most junction p i rules fits h =
+    omega (arith, green_below_cycle_law junction p i rules fits h, fits.cycle.greatest, rules.cycles.longest)
