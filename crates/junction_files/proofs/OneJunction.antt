@@ -2,13 +2,13 @@
 use Rattle.std.proofs.Common.{ℕ, ℤ, pos, List, Option, Some, map, length, ◌≡◌, ap, sym, ◌∙◌}
 use Rattle.std.proofs.lemmas.Option.{same_Some}
 use Rattle.toml.specs.Data.{Members, Data, table}
-use Rattle.junction_model.specs.View.{JunctionView}
+use Rattle.junction_model.specs.Junction.{JunctionView}
 use Rattle.junction_model.specs.Rules.{IsJunction}
 use Rattle.junction_files.specs.Document.{conflicts_in}
 use Rattle.junction_files.specs.Meaning.{natural, entry_of, IsJunctionOf}
 use Rattle.junction_files.specs.Reads.{IsDocument}
 use Rattle.junction_files.specs.Laws.{OneJunctionLaw}
-use Rattle.junction_files.proofs.OneTable.{same_table}
+use Rattle.conflict_matrix.proofs.OneTable.{same_table}
 
 pub same_document : (bytes : List ℕ) (d e : Members) → IsDocument bytes d → IsDocument bytes e → d ≡ e
 same_document bytes d e first second = same_Some d e (sym first.parsed ∙ second.parsed)
@@ -24,7 +24,7 @@ same_junction document j k first second rules_j rules_k =
     let groups : j.groups ≡ k.groups = first.groups ∙ sym second.groups in
     let lanes : j.lanes ≡ k.lanes = first.lanes ∙ sym second.lanes in
     let conflicts : j.conflicts ≡ k.conflicts = same_table (length j.groups) (map (entry_of document) (conflicts_in document)) j.conflicts k.conflicts
-    first.conflicts (rw (← groups) at second.conflicts) rules_j.conflicts.table rules_k.conflicts.table in
+    first.conflicts (rw (← groups) at second.conflicts) (first.links ∙ sym second.links) rules_j.conflicts.table rules_k.conflicts.table in
     λ i. record {
       title = title i;
       least_cycle = least i;
@@ -34,7 +34,7 @@ same_junction document j k first second rules_j rules_k =
       conflicts = conflicts i;
     }
 
-pub one_junction : OneJunctionLaw
-one_junction bytes j k first second =
+pub one_junction_law : OneJunctionLaw
+one_junction_law bytes j k first second =
     let same : second.document ≡ first.document = same_document bytes _ _ second.is_document first.is_document in
     same_junction (table first.document) j k first.junction_of (rw same at second.junction_of) first.rules second.rules

@@ -1,10 +1,10 @@
 -- The keys of a junction file, and what stands at them in a TOML document.
 use Rattle.std.specs.Prelude.{codes, ℕ, ℤ, List, [], ◌∷◌, ◌==◌, ◌-◌, Option, None, Some, if◌then◌else◌, option_and_then, option_map, unwrap_or, slice_get}
 use Rattle.toml.specs.Data.{Data, Items, no_items, item, Members, no_members, member, get_member, as_str, as_integer, as_array, as_table}
-use Rattle.junction_files.specs.declared.fault.Part.{Part}
-use Rattle.junction_files.specs.declared.fault.Part.TheVariants as part
-use Rattle.junction_files.specs.declared.fault.Key.{Key}
-use Rattle.junction_files.specs.declared.fault.Key.TheVariants as key
+use Rattle.junction_files.specs.declared.faults.Part.{Part}
+use Rattle.junction_files.specs.declared.faults.Part.TheVariants as part
+use Rattle.junction_files.specs.declared.faults.Key.{Key}
+use Rattle.junction_files.specs.declared.faults.Key.TheVariants as key
 
 -- a key as it is written; the words of no key are those of printed places
 abbrev pub word_of : Key → List ℕ
@@ -31,11 +31,11 @@ word_of key.AToB = codes "a_to_b"
 word_of key.BToA = codes "b_to_a"
 
 -- the keys that a table of a part may hold
-abbrev pub listed_keys : Part → List Key
-listed_keys part.Top = key.Version ∷ key.Name ∷ key.LeastCycle ∷ key.GreatestCycle ∷ key.Group ∷ key.Lane ∷ key.Conflict ∷ []
-listed_keys part.Group = key.Name ∷ key.MinGreen ∷ key.Amber ∷ key.RedAmber ∷ key.StartLost ∷ key.EndGain ∷ []
-listed_keys part.Lane = key.Name ∷ key.Group ∷ key.Arrival ∷ key.Saturation ∷ key.Limit ∷ []
-listed_keys part.Conflict = key.A ∷ key.B ∷ key.AToB ∷ key.BToA ∷ []
+abbrev pub part_keys : Part → List Key
+part_keys part.Top = key.Version ∷ key.Name ∷ key.LeastCycle ∷ key.GreatestCycle ∷ key.Group ∷ key.Lane ∷ key.Conflict ∷ []
+part_keys part.Group = key.Name ∷ key.MinGreen ∷ key.Amber ∷ key.RedAmber ∷ key.StartLost ∷ key.EndGain ∷ []
+part_keys part.Lane = key.Name ∷ key.Group ∷ key.Arrival ∷ key.Saturation ∷ key.Limit ∷ []
+part_keys part.Conflict = key.A ∷ key.B ∷ key.AToB ∷ key.BToA ∷ []
 
 abbrev pub elements : Items → List Data
 elements no_items = []
@@ -56,8 +56,11 @@ text_in d k = option_and_then as_str (value_in d k)
 abbrev pub whole_in : Data → Key → Option ℤ
 whole_in d k = option_and_then as_integer (value_in d k)
 
+abbrev pub array_in : Data → Key → Option Items
+array_in d k = option_and_then as_array (value_in d k)
+
 abbrev pub list_in : Data → Key → Option (List Data)
-list_in d k = option_map elements (option_and_then as_array (value_in d k))
+list_in d k = option_map elements (array_in d k)
 
 abbrev pub elements_in : Data → Key → List Data
 elements_in d k = unwrap_or (list_in d k) []

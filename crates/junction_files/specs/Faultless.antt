@@ -4,9 +4,12 @@ use Rattle.toml.specs.Data.{Data}
 use Rattle.sig_base.specs.Text.{IsLabel, IsTitle}
 use Rattle.junction_files.specs.Document.{text_in, whole_in, groups_in}
 use Rattle.junction_files.specs.Faults.{Fault, Stands}
-use Rattle.junction_files.specs.Meaning.{number_or, number_of, text_of, group_number}
-use Rattle.junction_files.specs.declared.fault.Key.{Key}
-use Rattle.junction_files.specs.declared.fault.Key.TheVariants as key
+use Rattle.junction_files.specs.Rules.{range_of}
+use Rattle.junction_files.specs.Meaning.{natural, number_or, number_of, text_of, group_number}
+use Rattle.junction_files.specs.declared.faults.Part.{Part}
+use Rattle.junction_files.specs.declared.faults.Part.TheVariants as part
+use Rattle.junction_files.specs.declared.faults.Key.{Key}
+use Rattle.junction_files.specs.declared.faults.Key.TheVariants as key
 
 pub record IsFaultless (document : Data) : Type 0 where
   pub none : (f : Fault) → ¬ Stands document f
@@ -21,6 +24,10 @@ pub record HasNumber (d : Data) (k : Key) (low high : ℕ) : Type 0 where
   pub whole : whole_in d k ≡ Some (pos (number_of d k))
   pub least : low ≤ number_of d k
   pub greatest : number_of d k ≤ high
+
+-- the same with the range that the key of a part asks for
+abbrev pub HasNumberOf : Part → Data → Key → Type 0
+HasNumberOf p d k = IfSome (range_of d p k) (λ range. HasNumber d k (natural range.0) (natural range.1))
 
 -- the number at the key, or the default, is in the range
 pub record HasNumberOr (default : ℕ) (d : Data) (k : Key) (low high : ℕ) : Type 0 where
@@ -39,11 +46,11 @@ pub record HasLabel (d : Data) : Type 0 where
   pub label : ¬ ¬ IsLabel (text_of d key.Name)
 
 pub record HasTimes (d : Data) : Type 0 where
-  pub min_green : HasNumber d key.MinGreen 1 120
-  pub amber : HasNumber d key.Amber 0 30
-  pub red_amber : HasNumber d key.RedAmber 0 10
-  pub start_lost : HasNumber d key.StartLost 0 10
-  pub end_gain : HasNumber d key.EndGain 0 30
+  pub min_green : HasNumberOf part.Group d key.MinGreen
+  pub amber : HasNumberOf part.Group d key.Amber
+  pub red_amber : HasNumberOf part.Group d key.RedAmber
+  pub start_lost : HasNumberOf part.Group d key.StartLost
+  pub end_gain : HasNumberOf part.Group d key.EndGain
 
 pub record IsGroupElement (d : Data) : Type 0 where
   pub label : HasLabel d
@@ -64,12 +71,12 @@ pub record HasReference (document d : Data) (k : Key) : Type 0 where
 pub record IsLaneElement (document d : Data) : Type 0 where
   pub label : HasLabel d
   pub group : HasReference document d key.Group
-  pub arrival : HasNumber d key.Arrival 0 20000
-  pub saturation : HasNumber d key.Saturation 1 20000
+  pub arrival : HasNumberOf part.Lane d key.Arrival
+  pub saturation : HasNumberOf part.Lane d key.Saturation
   pub limit : HasNumberOr 900 d key.Limit 1 1000
 
 pub record IsConflictElement (document d : Data) : Type 0 where
   pub a : HasReference document d key.A
   pub b : HasReference document d key.B
-  pub a_to_b : HasNumber d key.AToB 0 60
-  pub b_to_a : HasNumber d key.BToA 0 60
+  pub a_to_b : HasNumberOf part.Conflict d key.AToB
+  pub b_to_a : HasNumberOf part.Conflict d key.BToA

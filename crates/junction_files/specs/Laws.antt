@@ -1,10 +1,10 @@
 -- What is true of all bytes of a junction file.
 use Rattle.std.specs.Prelude.{ℕ, List, ◌≡◌}
-use Rattle.junction_model.specs.View.{JunctionView}
+use Rattle.junction_model.specs.Junction.{JunctionView}
 use Rattle.junction_files.specs.Reads.{Spells, IsRefusal}
-use Rattle.junction_files.specs.declared.fault.Kind.{Kind}
-use Rattle.junction_files.specs.declared.fault.Place.{Place}
-use Rattle.junction_files.specs.declared.fault.JunctionFault.TheVariants.{Refused}
+use Rattle.junction_files.specs.declared.faults.Kind.{Kind}
+use Rattle.junction_files.specs.declared.faults.Place.{Place}
+use Rattle.junction_files.specs.declared.faults.JunctionFault.TheVariants.{Refused}
 
 -- bytes spell at most one junction
 abbrev pub OneJunctionLaw : Type 0

@@ -1,12 +1,11 @@
 pub mod Document
 pub mod Rules
 pub mod Faults
-pub mod Order
+pub mod FaultOrder
 pub mod Meaning
 pub mod Reads
 pub mod Laws
-pub mod Spots
-pub mod First
+pub mod FirstFault
 pub mod Faultless
 pub mod Line
-pub mod Printed
+pub mod Printing

@@ -1,12 +1,12 @@
 -- The line that is printed for a refused file.
 use Rattle.std.specs.Prelude.{codes, ℕ, List, ◌++◌, decimal}
 use Rattle.junction_files.specs.Document.{word_of}
-use Rattle.junction_files.specs.Order.{kind_number}
-use Rattle.junction_files.specs.declared.fault.Kind.{Kind}
-use Rattle.junction_files.specs.declared.fault.Kind.TheVariants as kind
-use Rattle.junction_files.specs.declared.fault.Part.{Part}
-use Rattle.junction_files.specs.declared.fault.Part.TheVariants as part
-use Rattle.junction_files.specs.declared.fault.Place.{Place}
+use Rattle.junction_files.specs.FaultOrder.{kind_number}
+use Rattle.junction_files.specs.declared.faults.Kind.{Kind}
+use Rattle.junction_files.specs.declared.faults.Kind.TheVariants as kind
+use Rattle.junction_files.specs.declared.faults.Part.{Part}
+use Rattle.junction_files.specs.declared.faults.Part.TheVariants as part
+use Rattle.junction_files.specs.declared.faults.Place.{Place}
 
 abbrev pub kind_word : Kind → List ℕ
 kind_word kind.NotToml = codes "not_toml"

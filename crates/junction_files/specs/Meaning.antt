@@ -1,5 +1,5 @@
 -- The junction that a document without a fault spells.
-use Rattle.std.specs.Prelude.{ℕ, ℤ, pos, negsuc, List, [], map, length, Some, ◌≡◌, unwrap_or, position}
+use Rattle.std.specs.Prelude.{ℕ, ℤ, Bool, pos, negsuc, List, [], map, length, Some, ◌≡◌, unwrap_or, position}
 use Rattle.std.specs.Option.{option_map_or}
 use Rattle.std.specs.Str.{bytes_eq}
 use Rattle.toml.specs.Data.{Data}
@@ -8,10 +8,10 @@ use Rattle.conflict_matrix.specs.declared.entry.Entry.{Entry}
 use Rattle.conflict_matrix.specs.Entries.{IsTableOf}
 use Rattle.flow_model.specs.declared.lane.Lane.{Lane}
 use Rattle.junction_model.specs.declared.group.Group.{Group}
-use Rattle.junction_model.specs.View.{JunctionView}
+use Rattle.junction_model.specs.Junction.{JunctionView}
 use Rattle.junction_files.specs.Document.{text_in, whole_in, groups_in, lanes_in, conflicts_in}
-use Rattle.junction_files.specs.declared.fault.Key.{Key}
-use Rattle.junction_files.specs.declared.fault.Key.TheVariants as key
+use Rattle.junction_files.specs.declared.faults.Key.{Key}
+use Rattle.junction_files.specs.declared.faults.Key.TheVariants as key
 
 abbrev pub natural : ℤ → ℕ
 natural (pos n) = n
@@ -34,14 +34,18 @@ times_of d = record {
   red_amber = number_of d key.RedAmber;
   start_lost = number_of d key.StartLost;
   end_gain = number_of d key.EndGain;
+  max_green = 300;
 }
 
 abbrev pub group_of : Data → Group
 group_of d = record { label = text_of d key.Name; times = times_of d }
 
+abbrev pub has_name : List ℕ → Data → Bool
+has_name name d = bytes_eq (text_of d key.Name) name
+
 -- the number of the group with this name, from 0
 abbrev pub group_number : Data → List ℕ → ℕ
-group_number document name = unwrap_or (position (λ group. bytes_eq (text_of group key.Name) name) (groups_in document)) 0
+group_number document name = unwrap_or (position (has_name name) (groups_in document)) 0
 
 -- a lane's limit is 900 per mille where it isn't given
 abbrev pub lane_of : Data → Data → Lane
@@ -61,6 +65,10 @@ entry_of document d = record {
   b_to_a = number_of d key.BToA;
 }
 
+-- the conflicts as entries of their table
+abbrev pub entries_in : Data → List Entry
+entries_in document = map (entry_of document) (conflicts_in document)
+
 -- groups and lanes keep the order of the file; of the conflicts only their table stays
 pub record IsJunctionOf (document : Data) (junction : JunctionView) : Type 0 where
   pub title : text_in document key.Name ≡ Some junction.title
@@ -68,4 +76,5 @@ pub record IsJunctionOf (document : Data) (junction : JunctionView) : Type 0 whe
   pub greatest_cycle : whole_in document key.GreatestCycle ≡ Some (pos junction.greatest_cycle)
   pub groups : junction.groups ≡ map group_of (groups_in document)
   pub lanes : junction.lanes ≡ map (lane_of document) (lanes_in document)
-  pub conflicts : IsTableOf (length junction.groups) (map (entry_of document) (conflicts_in document)) junction.conflicts
+  pub conflicts : IsTableOf (length junction.groups) (entries_in document) junction.conflicts
+  pub links : junction.conflicts.links ≡ []

@@ -2,18 +2,18 @@
 use Rattle.std.specs.Prelude.{ℕ, List, Some, ◌≡◌, ◌-◌, ◌^◌, ◌⊎◌, min, IsUtf8}
 use Rattle.toml.specs.Data.{Members, table}
 use Rattle.toml.specs.Parse.{parse_document}
-use Rattle.junction_model.specs.View.{JunctionView}
+use Rattle.junction_model.specs.Junction.{JunctionView}
 use Rattle.junction_model.specs.Rules.{IsJunction}
 use Rattle.junction_files.specs.Faults.{Fault, Stands}
-use Rattle.junction_files.specs.Order.{IsFirstFault}
+use Rattle.junction_files.specs.FirstFault.{IsFirstFault}
 use Rattle.junction_files.specs.Meaning.{IsJunctionOf}
-use Rattle.junction_files.specs.declared.fault.Kind.{Kind}
-use Rattle.junction_files.specs.declared.fault.Kind.TheVariants as kind
-use Rattle.junction_files.specs.declared.fault.Part.TheVariants as part
-use Rattle.junction_files.specs.declared.fault.Key.TheVariants as key
-use Rattle.junction_files.specs.declared.fault.Place.{Place}
-use Rattle.junction_files.specs.declared.fault.JunctionFault.{JunctionFault}
-use Rattle.junction_files.specs.declared.fault.JunctionFault.TheVariants.{Refused, Memory}
+use Rattle.junction_files.specs.declared.faults.Kind.{Kind}
+use Rattle.junction_files.specs.declared.faults.Kind.TheVariants as kind
+use Rattle.junction_files.specs.declared.faults.Part.TheVariants as part
+use Rattle.junction_files.specs.declared.faults.Key.TheVariants as key
+use Rattle.junction_files.specs.declared.faults.Place.{Place}
+use Rattle.junction_files.specs.declared.faults.JunctionFault.{JunctionFault}
+use Rattle.junction_files.specs.declared.faults.JunctionFault.TheVariants.{Refused, Memory}
 
 -- the bytes are this TOML document
 pub record IsDocument (bytes : List ℕ) (document : Members) : Type 0 where

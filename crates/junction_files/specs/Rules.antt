@@ -2,12 +2,12 @@
 use Rattle.std.specs.Prelude.{ℕ, ℤ, pos, Option, None, Some, option_map}
 use Rattle.toml.specs.Data.{Data}
 use Rattle.junction_files.specs.Document.{whole_in}
-use Rattle.junction_files.specs.declared.fault.Part.{Part}
-use Rattle.junction_files.specs.declared.fault.Part.TheVariants as part
-use Rattle.junction_files.specs.declared.fault.Key.{Key}
-use Rattle.junction_files.specs.declared.fault.Key.TheVariants as key
-use Rattle.junction_files.specs.declared.sort.Sort.{Sort}
-use Rattle.junction_files.specs.declared.sort.Sort.TheVariants.{Text, Whole, WholeOrMissing, Tables}
+use Rattle.junction_files.specs.declared.faults.Part.{Part}
+use Rattle.junction_files.specs.declared.faults.Part.TheVariants as part
+use Rattle.junction_files.specs.declared.faults.Key.{Key}
+use Rattle.junction_files.specs.declared.faults.Key.TheVariants as key
+use Rattle.junction_files.specs.declared.faults.shape.Sort.{Sort}
+use Rattle.junction_files.specs.declared.faults.shape.Sort.TheVariants.{Text, Whole, WholeOrMissing, Tables}
 
 -- the kind of value that each listed key asks for, but the version, which has a fault of its own
 abbrev pub sort_of : Part → Key → Option Sort

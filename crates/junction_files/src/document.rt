@@ -1,10 +1,10 @@
-ghost use Rattle.std.specs.Prelude.{◌≡◌, map, option_map, option_and_then};
+ghost use Rattle.std.specs.Prelude.{◌≡◌, map, option_map, ◌-◌, take};
 ghost use Rattle.std.specs.Option.{option_copied};
 ghost use Rattle.toml.specs.View.{view, array_view, table_view};
-ghost use Rattle.toml.specs.Data.{get_member, as_array};
-ghost use Rattle.junction_files.specs.Document.{word_of, value_in, text_in, whole_in, list_in, elements_in};
+ghost use Rattle.toml.specs.Data.{get_member};
+ghost use Rattle.junction_files.specs.Document.{word_of, value_in, text_in, whole_in, array_in, list_in, elements_in};
 
-use crate::fault::Key;
+use crate::faults::Key;
 use toml::{Table, Value};
 
 /// A key as it is written in a file.
@@ -72,7 +72,7 @@ pub fn whole(element: &Value, key: Key) -> Option<i64>
 }
 
 fn array<'t>(element: &'t Value, key: Key) -> Option<&'t Vec<Value>>
-    ensures { option_map (λ a. array_view a.now) result ≡ option_and_then as_array (value_in (view element.now) key) }
+    ensures { option_map (λ a. array_view a.now) result ≡ array_in (view element.now) key }
 {
     match value(element, key) {
         Some(value) => value.as_array(),
@@ -82,7 +82,8 @@ fn array<'t>(element: &'t Value, key: Key) -> Option<&'t Vec<Value>>
 
 /// The elements of the list at a key.
 pub fn list<'t>(element: &'t Value, key: Key) -> Option<&'t [Value]>
-    ensures { option_map (λ elements. map view elements.now) result ≡ list_in (view element.now) key }
+    ensures { option_map (λ elements. map view elements.now) result
+        ≡ list_in (view element.now) key }
 {
     match array(element, key) {
         Some(elements) => Some(elements.as_slice()),
@@ -98,4 +99,13 @@ pub fn elements<'t>(element: &'t Value, key: Key) -> &'t [Value]
         Some(elements) => elements,
         None => &[],
     }
+}
+
+/// The elements of the list at a key before a number, counted from 1.
+pub fn elements_before<'t>(document: &'t Value, list: Key, number: usize) -> &'t [Value]
+    ensures { map view result.now ≡ take (number - 1) (elements_in (view document.now) list) }
+{
+    let elements = elements(document, list);
+    let end = number.saturating_sub(1).min(elements.len());
+    &elements[..end]
 }

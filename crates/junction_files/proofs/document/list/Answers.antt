@@ -2,7 +2,7 @@ use Rattle.std.proofs.Common.{rules, ◌≡◌, Some, map, option_and_then, refl
 use Rattle.toml.specs.Data.{as_array}
 use Rattle.toml.specs.View.{view, items_of}
 use Rattle.junction_files.specs.Document.{value_in}
-use Rattle.junction_files.proofs.Elements.{elements-items_of}
+use Rattle.junction_files.proofs.ElementAt.{elements-items_of}
 use Rattle.junction_files.proofs.document.list.Goals as goal
 
 pub returns-in-Some : goal.returns-in-Some

@@ -1,5 +1,0 @@
-use Rattle.junction_files.proofs.GroupElements.{group_value}
-use Rattle.junction_files.proofs.groups.groups.Goals as goal
-
-pub group-requires : goal.group-requires
-group-requires c = group_value _ c.requires _ _ _ c.elements-element-items.ensures c.loop-element-test.true c.element-item.is

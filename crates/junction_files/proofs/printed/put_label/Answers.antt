@@ -1,5 +1,0 @@
-use Rattle.junction_files.proofs.Ascii.{label_text}
-use Rattle.junction_files.proofs.printed.put_label.Goals as goal
-
-pub put_text-requires : goal.put_text-requires
-put_text-requires c = label_text _ (rw (← c.bytes.ensures.value) at c.bytes.ensures.label)

@@ -1,5 +1,0 @@
-use Rattle.junction_files.proofs.Ascii.{title_text}
-use Rattle.junction_files.proofs.printer.head_table.Goals as goal
-
-pub put_text-requires : goal.put_text-requires
-put_text-requires c = title_text _ (rw (← c.bytes.ensures.value) at c.bytes.ensures.title)

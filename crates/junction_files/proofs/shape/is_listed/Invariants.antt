@@ -1,7 +1,0 @@
-use Rattle.std.proofs.Common.{◌≡◌, ◌<◌, ℕ, get_or}
-use Rattle.junction_files.specs.Document.{word_of}
-use Rattle.junction_files.specs.declared.fault.Key.TheVariants as key
-use Rattle.junction_files.proofs.shape.is_listed.Given as goal
-
-abbrev pub invariant-loop-key : goal.invariant-loop-key
-invariant-loop-key l = (k : ℕ) → k < l.key-index → ¬ (word_of (get_or l.key-items k key.Whole) ≡ l.found)
