@@ -1,4 +1,4 @@
 pub mod One
-pub mod PairLaws
+pub mod TwoGroups
 pub mod PlanAt
-pub mod Held
+pub mod TopCall

@@ -2,12 +2,12 @@
 use Rattle.std.proofs.Common.{ℕ, ap, sym, subst, Some, None, Option}
 use Rattle.std.specs.Prelude.{MatchOption}
 use Rattle.sig_base.specs.Fraction.{over}
-use Rattle.junction_model.specs.View.{JunctionView}
-use Rattle.plan_model.specs.Plan.{PlanView, start_of}
+use Rattle.junction_model.specs.Junction.{JunctionView}
+use Rattle.plan_model.specs.SignalPlan.{PlanView, start_of}
 use Rattle.plan_model.specs.Fits.{Fits}
 use Rattle.plan_model.specs.Multiplier.{Meets}
 use Rattle.junction_program.specs.Pair.{pair_plan, IsPairFor, MeetsAt}
-use Rattle.junction_program.specs.PairLaws.{PairMeetsLaw, AreLeastGreens}
+use Rattle.junction_program.specs.TwoGroups.{PairMeetsLaw, AreLeastGreens}
 
 pub on_option : {X : Type 0} (o : Option X) (P P' : Type 0) (Q Q' : X → Type 0) → (P → P') → ((x : X) → Q x → Q' x) → MatchOption o P Q → MatchOption o P' Q'
 on_option None P P' Q Q' f g h = f h

@@ -1,6 +1,6 @@
 pub mod Words
-pub mod Texts
+pub mod PlanLines
 pub mod Pair
-pub mod PairLaws
-pub mod Answers
+pub mod TwoGroups
+pub mod Run
 pub mod StatusNumber

@@ -1,8 +1,8 @@
 -- Plans of two groups that meet the multiple 1.
 use Rattle.std.specs.Prelude.{ℕ, [], ◌∷◌, ◌≡◌}
 use Rattle.sig_base.specs.Fraction.{over}
-use Rattle.junction_model.specs.View.{JunctionView}
-use Rattle.plan_model.specs.Plan.{PlanView, start_of}
+use Rattle.junction_model.specs.Junction.{JunctionView}
+use Rattle.plan_model.specs.SignalPlan.{PlanView, start_of}
 use Rattle.plan_model.specs.Fits.{Fits}
 use Rattle.plan_model.specs.Multiplier.{Meets}
 use Rattle.plan_model.specs.Claims.{IsCycleOptimal}

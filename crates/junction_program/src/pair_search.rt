@@ -1,13 +1,14 @@
-ghost use Rattle.std.specs.Prelude.{◌≡◌, ◌≤◌, ◌<◌, MatchOption, length};
+ghost use Rattle.std.specs.Prelude.{◌≡◌, ◌<◌, MatchOption, length};
 ghost use Rattle.sig_base.specs.First.{NoneBelow};
 ghost use Rattle.sig_base.specs.Fraction.{over};
 ghost use Rattle.sig_base.specs.Ratio.{fraction_of};
+ghost use Rattle.sig_base.specs.Times.{IsCycle};
 ghost use Rattle.plan_model.specs.Fits.{Fits};
 ghost use Rattle.plan_model.specs.Claims.{IsInfeasible};
-ghost use Rattle.plan_model.specs.Fitted.{junction_of, fitted_plan_of};
+ghost use Rattle.plan_model.specs.FittedPlan.{junction_of, fitted_plan_of};
 ghost use Rattle.junction_program.specs.Pair.{pair_plan, IsPairFor, MeetsAt, IsShortest, NoneMeetsAt};
 
-use crate::pair_laws::pair_laws;
+use crate::two_groups::two_groups_law;
 use junction_model::Junction;
 use least_greens::need;
 use plan_model::{ALL_LANES, FittedPlan, Plan};
@@ -21,7 +22,9 @@ fn first_start<'j>(
     second: u32,
 ) -> Option<FittedPlan<'j>>
     requires { length junction.now.groups ≡ 2 }
-    ensures { MatchOption result (NoneBelow (λ start. Fits junction.now (pair_plan cycle start first second)) cycle) (λ f. IsPairFor junction.now cycle first second (junction_of f) (fitted_plan_of f)) }
+    ensures { MatchOption result
+        (NoneBelow (λ start. Fits junction.now (pair_plan cycle start first second)) cycle)
+        (λ f. IsPairFor junction.now cycle first second (junction_of f) (fitted_plan_of f)) }
 {
     for start in 0..cycle {
         let Some(plan) = Plan::new(cycle, &[0, start], &[first, second]) else {
@@ -46,13 +49,12 @@ fn one() -> Ratio
 /// A plan of the cycle that meets the flow multiple 1.
 fn plan_at<'j>(junction: &'j Junction, cycle: u32) -> Option<FittedPlan<'j>>
     requires two { length junction.now.groups ≡ 2 }
-    requires shortest { 1 ≤ cycle }
-    requires longest { cycle ≤ 300 }
-    ensures { MatchOption result (NoneMeetsAt junction.now cycle) (λ f. MeetsAt junction.now cycle (junction_of f) (fitted_plan_of f)) }
+    requires cycle { IsCycle cycle }
+    ensures { MatchOption result (NoneMeetsAt junction.now cycle)
+        (λ f. MeetsAt junction.now cycle (junction_of f) (fitted_plan_of f)) }
 {
-    pair_laws();
-    // The reader's contract tells the junction's rules.
-    let _groups = junction.groups();
+    two_groups_law();
+    junction.rules();
     let target = Target::Reach(one());
     let first = need(junction, ALL_LANES, target, cycle, 0);
     let second = need(junction, ALL_LANES, target, cycle, 1);
@@ -63,8 +65,10 @@ fn plan_at<'j>(junction: &'j Junction, cycle: u32) -> Option<FittedPlan<'j>>
 /// group 0 at second 0; `None` exactly where no plan does.
 pub fn shortest_pair<'j>(junction: &'j Junction) -> Option<FittedPlan<'j>>
     requires { length junction.now.groups ≡ 2 }
-    ensures { MatchOption result (IsInfeasible junction.now (over 1 1)) (λ f. IsShortest junction.now (junction_of f) (fitted_plan_of f)) }
+    ensures { MatchOption result (IsInfeasible junction.now (over 1 1))
+        (λ f. IsShortest junction.now (junction_of f) (fitted_plan_of f)) }
 {
+    junction.rules();
     for cycle in junction.least_cycle()..junction.greatest_cycle() + 1 {
         if let Some(plan) = plan_at(junction, cycle) {
             return Some(plan);

@@ -20,7 +20,7 @@ pub enum Status {
     BadCertificate,
     /// The shelf failed, or doesn't hold a name that was asked for.
     ShelfFailed,
-    /// The sink failed.
+    /// The sink failed; it has got a prefix of the text.
     SinkFailed,
     /// No memory could be had.
     Memory,

@@ -1,6 +1,6 @@
 use Rattle.std.proofs.Common.{arith, below_more, sym, subst}
 use Rattle.std.proofs.lemmas.Bool.{false≢true}
-use Rattle.plan_model.specs.Plan.{PlanView}
+use Rattle.plan_model.specs.SignalPlan.{PlanView}
 use Rattle.plan_model.specs.Fits.{Fits}
 use Rattle.junction_program.proofs.pair_search.first_start.Goals as goal
 

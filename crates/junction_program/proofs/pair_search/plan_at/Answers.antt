@@ -1,11 +1,11 @@
-use Rattle.junction_program.specs.PairLaws.{AreLeastGreens}
+use Rattle.junction_program.specs.TwoGroups.{AreLeastGreens}
 use Rattle.junction_program.proofs.PlanAt.{on_option, pair_meets_at}
 use Rattle.junction_program.proofs.pair_search.plan_at.Goals as goal
 
 pub returns : goal.returns
 returns c =
     let least : AreLeastGreens c.args.junction.now c.args.cycle c.need-first.result c.need-second.result = record {
-      rules = c.groups-groups.ensures.rules;
+      rules = c.rules.ensures;
       two = c.requires.two;
       one = c.one.result;
       is_one = c.one.ensures;
@@ -13,6 +13,6 @@ returns c =
       of_second = c.need-second.ensures.value;
     } in
     on_option c.first_start.result _ _ _ _
-    (c.pair_laws.ensures.no_start c.args.junction.now c.args.cycle c.need-first.result c.need-second.result least)
-    (λ f pair. pair_meets_at c.pair_laws.ensures.meets c.args.junction.now c.args.cycle _ _ _ _ least pair)
+    (c.two_groups_law.ensures.no_start c.args.junction.now c.args.cycle c.need-first.result c.need-second.result least)
+    (λ f pair. pair_meets_at c.two_groups_law.ensures.meets c.args.junction.now c.args.cycle _ _ _ _ least pair)
     c.first_start.ensures

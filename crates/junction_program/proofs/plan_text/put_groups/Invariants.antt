@@ -1,6 +1,6 @@
 use Rattle.std.proofs.Common.{◌≡◌, ◌++◌, drop}
-use Rattle.plan_model.specs.Plans.{plan_of}
-use Rattle.junction_program.specs.Texts.{group_lines}
+use Rattle.plan_model.specs.Plan.{plan_of}
+use Rattle.junction_program.specs.PlanLines.{group_lines}
 use Rattle.junction_program.proofs.plan_text.put_groups.Given as goal
 
 abbrev pub invariant-loop-i : goal.invariant-loop-i

@@ -5,7 +5,7 @@ use Rattle.sig_base.specs.Fraction.{over}
 use Rattle.sig_base.specs.Ratio.{fraction_of}
 use Rattle.sig_base.specs.declared.ratio.Ratio.{Ratio}
 use Rattle.sig_base.specs.declared.target.Target.TheVariants.{Reach}
-use Rattle.junction_model.specs.View.{JunctionView}
+use Rattle.junction_model.specs.Junction.{JunctionView}
 use Rattle.junction_model.specs.Rules.{IsJunction}
 use Rattle.plan_model.specs.AllLanes.{all_lanes}
 use Rattle.plan_model.specs.Fits.{Fits}

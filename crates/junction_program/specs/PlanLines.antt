@@ -1,8 +1,8 @@
 -- The lines that are printed.
 use Rattle.std.specs.Prelude.{codes, ℕ, List, [], ◌∷◌, ◌++◌, ◌+◌, decimal}
 use Rattle.junction_model.specs.declared.group.Group.{Group}
-use Rattle.junction_model.specs.View.{JunctionView}
-use Rattle.plan_model.specs.Plan.{PlanView, start_of, green_of}
+use Rattle.junction_model.specs.Junction.{JunctionView}
+use Rattle.plan_model.specs.SignalPlan.{PlanView, start_of, green_of}
 
 abbrev pub cycle_line : ℕ → List ℕ
 cycle_line cycle = codes "cycle " ++ (decimal cycle ++ codes "\n")

@@ -9,30 +9,30 @@ use Rattle.sig_base.specs.Ratio.{fraction_of}
 use Rattle.sig_base.specs.declared.ratio.Ratio.{Ratio}
 use Rattle.sig_base.specs.declared.target.Target.TheVariants.{Reach}
 use Rattle.junction_model.specs.declared.group.Group.{Group}
-use Rattle.junction_model.specs.View.{JunctionView}
+use Rattle.junction_model.specs.Junction.{JunctionView}
 use Rattle.junction_model.specs.Rules.{IsJunction}
 use Rattle.plan_model.specs.AllLanes.{all_lanes, AllLanesTargetLaw}
-use Rattle.plan_model.specs.Plan.{PlanView, start_of, green_of}
+use Rattle.plan_model.specs.SignalPlan.{PlanView, start_of, green_of}
 use Rattle.plan_model.specs.Fits.{Fits, group_count}
 use Rattle.plan_model.specs.Multiplier.{Meets}
-use Rattle.plan_model.specs.Longest.{LongestLaw}
+use Rattle.plan_model.specs.GreenBelowCycle.{GreenBelowCycleLaw}
 use Rattle.plan_model.specs.Shortening.{ShorteningLaw, IsShortened}
-use Rattle.plan_model.specs.Turning.{TurningLaw, FirstStartLaw, turned}
+use Rattle.plan_model.specs.Rotation.{RotationLaw, FirstStartLaw, rotated}
 use Rattle.least_greens.specs.Laws.{NeedLaw, PlanNeedLaw}
 use Rattle.least_greens.specs.NeedOf.{need_of}
 use Rattle.junction_program.specs.Pair.{pair_plan}
-use Rattle.junction_program.specs.PairLaws.{NoStartLaw, PairMeetsLaw, AreLeastGreens}
+use Rattle.junction_program.specs.TwoGroups.{NoStartLaw, PairMeetsLaw, AreLeastGreens}
 
 abbrev HasNeeds : JunctionView → Ratio → PlanView → Type 0
 HasNeeds junction one p = (i : ℕ) → i < group_count junction → need_of junction all_lanes (Reach one) p.cycle i ≤ green_of p i
 
 -- a plan meets the multiple 1 exactly where it fits and no green is below its group's need
-abbrev pub NeedsLaw : Type 0
-NeedsLaw = (junction : JunctionView) (p : PlanView) (one : Ratio) → IsJunction junction → fraction_of one ≡ over 1 1 →
+abbrev pub MeetsByNeedsLaw : Type 0
+MeetsByNeedsLaw = (junction : JunctionView) (p : PlanView) (one : Ratio) → IsJunction junction → fraction_of one ≡ over 1 1 →
     Meets junction p (over 1 1) ↔ (Fits junction p × HasNeeds junction one p)
 
-pub meets_by_needs : AllLanesTargetLaw → PlanNeedLaw → NeedsLaw
-meets_by_needs over_all by_needs junction p one rules is_one =
+pub meets_by_needs_law : AllLanesTargetLaw → PlanNeedLaw → MeetsByNeedsLaw
+meets_by_needs_law over_all by_needs junction p one rules is_one =
     let target = (over_all junction p one rules).0 in
     let needs = by_needs junction p all_lanes (Reach one) rules in
     (λ meets. needs.0 (target.1 (rw is_one meets)), λ fit. rw is_one at (target.0 (needs.1 fit)))
@@ -45,7 +45,7 @@ each_need junction cycle start first second least (suc zero) within = least.of_s
 each_need junction cycle start first second least (suc (suc i)) within = absurd (omega (arith, least.two))
 
 -- a need that a green of a plan is enough for is at least the minimum green
-long_need : LongestLaw → NeedLaw → (junction : JunctionView) (p : PlanView) (one : Ratio) (i : ℕ) (group : Group) → IsJunction junction → Fits junction p →
+long_need : GreenBelowCycleLaw → NeedLaw → (junction : JunctionView) (p : PlanView) (one : Ratio) (i : ℕ) (group : Group) → IsJunction junction → Fits junction p →
     HasNeeds junction one p → slice_get junction.groups i ≡ Some group → group.times.min_green ≤ need_of junction all_lanes (Reach one) p.cycle i
 long_need longest need junction p one i group rules fits most there =
     let within = slice_get_within junction.groups i group there in
@@ -60,7 +60,7 @@ two_numbers (x ∷ (y ∷ [])) h = refl
 two_numbers (x ∷ (y ∷ (z ∷ zs))) h = absurd (omega arith)
 
 -- a plan that starts with group 0 and has the needs, with these as its greens
-shortened : LongestLaw → NeedLaw → (junction : JunctionView) (q : PlanView) (first second : ℕ) → (least : AreLeastGreens junction q.cycle first second) →
+shortened : GreenBelowCycleLaw → NeedLaw → (junction : JunctionView) (q : PlanView) (first second : ℕ) → (least : AreLeastGreens junction q.cycle first second) →
     Fits junction q → HasNeeds junction least.one q → start_of q 0 ≡ 0 → IsShortened junction q (pair_plan q.cycle (start_of q 1) first second)
 shortened longest need junction q first second least fits most starts_first =
     let two : length q.starts ≡ 2 = fits.groups.starts ∙ least.two in
@@ -74,7 +74,7 @@ shortened longest need junction q first second least fits most starts_first =
       most = λ i within. rw (each i within) (most i within);
     }
 
-none_starts : NeedsLaw → LongestLaw → NeedLaw → ShorteningLaw → (junction : JunctionView) (q : PlanView) (first second : ℕ) →
+none_starts : MeetsByNeedsLaw → GreenBelowCycleLaw → NeedLaw → ShorteningLaw → (junction : JunctionView) (q : PlanView) (first second : ℕ) →
     AreLeastGreens junction q.cycle first second → NoneBelow (λ start. Fits junction (pair_plan q.cycle start first second)) q.cycle →
     start_of q 0 ≡ 0 → ¬ Meets junction q (over 1 1)
 none_starts needs longest need shortening junction q first second least none starts_first meets =
@@ -82,16 +82,16 @@ none_starts needs longest need shortening junction q first second least none sta
     let most = ((needs junction q least.one least.rules least.is_one).0 meets).1 in
     none (start_of q 1) early (shortening junction q _ meets.fits (shortened longest need junction q first second least meets.fits most starts_first))
 
-pub no_start : NeedsLaw → LongestLaw → NeedLaw → ShorteningLaw → TurningLaw → FirstStartLaw → NoStartLaw
-no_start needs longest need shortening turning first_start junction cycle first second least none p same meets =
+pub no_start_law : MeetsByNeedsLaw → GreenBelowCycleLaw → NeedLaw → ShorteningLaw → RotationLaw → FirstStartLaw → NoStartLaw
+no_start_law needs longest need shortening rotation first_start junction cycle first second least none p same meets =
     let by = p.cycle - start_of p 0 in
-    none_starts needs longest need shortening junction (turned by p) first second
+    none_starts needs longest need shortening junction (rotated by p) first second
     (subst (λ c. AreLeastGreens junction c first second) (sym same) least)
     (subst (λ c. NoneBelow (λ start. Fits junction (pair_plan c start first second)) c) (sym same) none)
     (first_start junction p least.rules meets.fits)
-    ((turning junction p by least.rules meets.fits).meets (over 1 1) meets)
+    ((rotation junction p by least.rules meets.fits).meets (over 1 1) meets)
 
-pub pair_meets : NeedsLaw → PairMeetsLaw
-pair_meets needs junction cycle start first second least fits =
+pub pair_meets_law : MeetsByNeedsLaw → PairMeetsLaw
+pair_meets_law needs junction cycle start first second least fits =
     (needs junction (pair_plan cycle start first second) least.one least.rules least.is_one).1
     (fits, λ i within. omega (arith, each_need junction cycle start first second least i within))

@@ -1,19 +1,8 @@
 //! The program: runs the command that its words spell over files and standard output, and ends with
-//! the number of the status. `run` is the top call, whose contract is what the program promises.
+//! the number of the status. What it promises is the contract of `junction_program::run`.
 #![tactic(auto)]
 
-mod pair_laws;
-mod pair_search;
-mod plan_text;
-mod pushing;
-mod run;
-mod shortest;
-mod status;
-#[cfg(test)]
-mod tests;
-mod words;
-
-use crate::run::run;
+use junction_program::run;
 use sig_base::{FileShelf, StdSink};
 use std::process::ExitCode;
 use std::rt::Env;

@@ -1,6 +1,6 @@
 use Rattle.std.proofs.Common.{◌≡◌, ◌∙◌}
-use Rattle.junction_program.proofs.Held.{same_bytes, outside}
-use Rattle.junction_program.proofs.run.run.Goals as goal
+use Rattle.junction_program.proofs.TopCall.{same_bytes, outside}
+use Rattle.junction_program.proofs.top_call.run.Goals as goal
 
 pub returns-in-Ok-clause-bad_junction_always : goal.returns-in-Ok-clause-bad_junction_always
 returns-in-Ok-clause-bad_junction_always g c bytes kind place held refused =
