@@ -1,0 +1,28 @@
+//! The tests of every crate, each in a module named `of_` and the crate. They stand here once, since a
+//! crate with tests is proved twice. They hold rows that were worked out by hand or by another program,
+//! and one call with ample memory of each call that may answer want of memory. A file is a table
+//! and the one function that walks it.
+#![tactic(auto)]
+
+#[cfg(test)]
+mod of_conflict_matrix;
+#[cfg(test)]
+mod of_constraint_cycles;
+#[cfg(test)]
+mod of_difference_system;
+#[cfg(test)]
+mod of_flow_model;
+#[cfg(test)]
+mod of_junction_files;
+#[cfg(test)]
+mod of_junction_model;
+#[cfg(test)]
+mod of_junction_program;
+#[cfg(test)]
+mod of_least_greens;
+#[cfg(test)]
+mod of_plan_model;
+#[cfg(test)]
+mod of_sig_base;
+#[cfg(test)]
+mod samples;

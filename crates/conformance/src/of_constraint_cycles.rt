@@ -1,0 +1,5 @@
+//! Sums of walks, worked out from the definitions.
+
+mod trees;
+mod walks;
+mod weights;

@@ -1,0 +1,4 @@
+mod files;
+mod memory;
+mod ratios;
+mod watched_files;
