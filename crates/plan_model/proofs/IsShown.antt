@@ -15,7 +15,7 @@ group_rules junction i group rules is =
     rw (get_or_from_slice_get junction.groups i group group is) at
     (All-get_or IsGroup junction.groups i group (slice_get_within _ _ _ is) rules.groups.each)
 
-group_there : (junction : JunctionView) (i : ℕ) → i < group_count junction → (group : Group) × (slice_get junction.groups i ≡ Some group)
+pub group_there : (junction : JunctionView) (i : ℕ) → i < group_count junction → (group : Group) × (slice_get junction.groups i ≡ Some group)
 group_there junction i h =
     elim (slice_get_cases junction.groups i).1 [ inl w ↦ (w.0, w.2) | inr w ↦ absurd (omega (arith, w.0)) ]
 

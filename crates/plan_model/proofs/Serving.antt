@@ -28,7 +28,8 @@ lane_serving_law lane times cycle shorter longer m h =
     let more = more_served lane times shorter longer m.den h in
     (λ served. omega (arith, served, more), λ served. omega (arith, served, more))
 
-abbrev IsServedMore : Fraction → Fraction → Type 0
+-- the second fraction serves what the first one does
+abbrev pub IsServedMore : Fraction → Fraction → Type 0
 IsServedMore own more = (m : Fraction) → (IsAtMost m own → IsAtMost m more) × (IsBelow m own → IsBelow m more)
 
 on_lane : (junction : JunctionView) (p q : PlanView) (k : ℕ) (lane : Lane) (group : Group) (more : Fraction) → IsAsLong junction p q →
@@ -41,7 +42,7 @@ on_lane junction p q k lane group more long of =
       λ m. rw (← at_p) (lane_serving_law lane group.times p.cycle (green_of p lane.group) (green_of q lane.group) m longer),
     )
 
-same_lane : (junction : JunctionView) (p q : PlanView) (k : ℕ) (more : Fraction) → IsAsLong junction p q → multiplier_at junction q k ≡ Some more →
+pub same_lane : (junction : JunctionView) (p q : PlanView) (k : ℕ) (more : Fraction) → IsAsLong junction p q → multiplier_at junction q k ≡ Some more →
     (own : Fraction) × (multiplier_at junction p k ≡ Some own) × IsServedMore own more
 same_lane junction p q k more long found =
     let of = lane_of junction q k more found in on_lane junction p q k of.0 of.1 more long of.2

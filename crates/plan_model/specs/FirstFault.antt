@@ -1,5 +1,5 @@
 -- The first reason why a plan doesn't fit.
-use Rattle.std.specs.Prelude.{ℕ, Option, Result, length, ◌<◌, ◌≤◌, IsSomeAnd, MatchOption, MatchResult, slice_get}
+use Rattle.std.specs.Prelude.{ℕ, Option, Result, length, ◌<◌, ◌≤◌, ⊤, IsSomeAnd, MatchOption, MatchResult, slice_get}
 use Rattle.sig_base.specs.First.{SomeBelow, NoneBelow, IsFirst, FirstOrNone}
 use Rattle.conflict_matrix.specs.Matrix.{intergreen_of}
 use Rattle.junction_model.specs.declared.group.Group.{Group}
@@ -75,6 +75,23 @@ IsFirstFault junction p (Link k) =
     × NoneBelow (IsGreenShort junction p) (group_count junction) × NoneBelow (GroupClashes junction p) (group_count junction)
     × NoneBelow (IsGreenLong junction p) (group_count junction) × IsFirst (IsLinkBroken junction p) (length junction.conflicts.links) k
 
+-- each group and link that the fault names is one of the junction's
+abbrev pub NamesPartsOf : JunctionView → PlanFault → Type 0
+NamesPartsOf junction CycleLimit = ⊤
+NamesPartsOf junction (StartRange i) = i < group_count junction
+NamesPartsOf junction (MinGreen i) = i < group_count junction
+NamesPartsOf junction (Clash i j t) = (i < group_count junction) × (j < group_count junction)
+NamesPartsOf junction (MaxGreen i) = i < group_count junction
+NamesPartsOf junction (Link k) = k < length junction.conflicts.links
+
+-- the first fault of a plan does
+abbrev pub FaultNamesLaw : Type 0
+FaultNamesLaw = (junction : JunctionView) (p : PlanView) (fault : PlanFault) → IsFirstFault junction p fault → NamesPartsOf junction fault
+
 -- the plan fits, or the answer is its first fault
 abbrev pub FitsOrFirstFault : {T : Type 0} → JunctionView → PlanView → Result T PlanFault → Type 0
 FitsOrFirstFault junction p answer = MatchResult answer (λ _. Fits junction p) (IsFirstFault junction p)
+
+-- a plan that fits has no first fault
+abbrev pub FaultLaw : Type 0
+FaultLaw = (junction : JunctionView) (p : PlanView) (fault : PlanFault) → Fits junction p → ¬ IsFirstFault junction p fault

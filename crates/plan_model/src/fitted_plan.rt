@@ -28,8 +28,8 @@ impl<'j> FittedPlan<'j> {
         Ok(FittedPlan { junction, plan })
     }
 
-    /// A plan of which a law tells that it fits.
-    pub(crate) fn by_law(junction: &'j Junction, plan: Plan) -> FittedPlan<'j>
+    /// The plan beside its junction, where a law tells that it fits.
+    pub fn by_law(junction: &'j Junction, plan: Plan) -> FittedPlan<'j>
         requires { Fits junction.now (plan_of plan) }
         ensures junction { junction_of result ≡ junction.now }
         ensures plan { fitted_plan_of result ≡ plan_of plan }

@@ -6,6 +6,7 @@ ghost use Rattle.plan_model.specs.Plan.{plan_of};
 
 use crate::plan::Plan;
 
+/// Whether the group is green at the second, counted from 0.
 pub fn is_green(plan: &Plan, group: usize, second: u32) -> bool
     requires start { group < length (plan_of plan.now).starts }
     requires green { group < length (plan_of plan.now).greens }

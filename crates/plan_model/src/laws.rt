@@ -4,8 +4,9 @@ ghost use Rattle.std.specs.Prelude.{◌≡◌};
 ghost use Rattle.plan_model.specs.AllLanes.{all_lanes, AllLanesTargetLaw, AllLanesMultiplierLaw};
 ghost use Rattle.plan_model.specs.MultiplierLaws.{LaneDenominatorLaw, SomeMultiplierLaw, OneMultiplierLaw, PlanMultiplierLaw, AllLanesFlowLaw};
 ghost use Rattle.plan_model.specs.Claims.{OptimalLaw};
+ghost use Rattle.plan_model.specs.FirstFault.{FaultLaw, FaultNamesLaw};
 ghost use Rattle.plan_model.specs.Gap.{GapLaw, SpacingLaw};
-ghost use Rattle.plan_model.specs.GreenBelowCycle.{GreenBelowCycleLaw};
+ghost use Rattle.plan_model.specs.GreenBelowCycle.{GreenBelowCycleLaw, AmberBelowCycleLaw};
 ghost use Rattle.plan_model.specs.FullOrder.{FullOrderFitsLaw};
 ghost use Rattle.plan_model.specs.OwnOrder.{OwnOrderLaw, OneMarkLaw, ClosedTreeLaw};
 ghost use Rattle.plan_model.specs.Serving.{LaneServingLaw, ServingLaw};
@@ -16,9 +17,20 @@ use crate::least_multiplier::ALL_LANES;
 use conflict_matrix::pair_laws;
 use constraint_cycles::{edge_law, exclusion_law, tree_law};
 
-/// No green of a plan that fits fills its cycle.
+/// A plan that fits has no fault.
+pub fn fault_law()
+    ensures { FaultLaw }
+{}
+
+/// The first fault of a plan names groups and links of the junction only.
+pub fn fault_names_law()
+    ensures { FaultNamesLaw }
+{}
+
+/// No green of a plan that fits fills its cycle, not even with the amber after it.
 pub fn green_below_cycle_law()
-    ensures { GreenBelowCycleLaw }
+    ensures green { GreenBelowCycleLaw }
+    ensures amber { AmberBelowCycleLaw }
 {}
 
 /// A plan is clear exactly where each green and the intergreen after it end by the next start of the

@@ -1,50 +1,20 @@
-ghost use Rattle.std.specs.Prelude.{◌≡◌, ◌+◌, ◌≤◌, ◌<◌, ◌⊎◌, length, Some, slice_get};
+ghost use Rattle.std.specs.Prelude.{◌≡◌, ◌+◌, ◌≤◌, ◌<◌, ◌⊎◌, length};
 ghost use Rattle.sig_base.specs.Fraction.{IsAtMost};
 ghost use Rattle.sig_base.specs.Ratio.{fraction_of};
-ghost use Rattle.junction_model.specs.Rules.{IsGroup};
-ghost use Rattle.plan_model.specs.SignalPlan.{green_of};
-ghost use Rattle.plan_model.specs.Fits.{group_count};
+ghost use Rattle.plan_model.specs.Claims.{IsPlanMultiplier};
 ghost use Rattle.plan_model.specs.MultiplierLaws.{LeastMultiplierOrNone};
-ghost use Rattle.plan_model.specs.Least.{IsEffectiveAt, IsMultiplierAt, IsCountedAt, FoundBelow};
+ghost use Rattle.plan_model.specs.Least.{IsMultiplierAt, IsCountedAt, FoundBelow};
 ghost use Rattle.plan_model.specs.FittedPlan.{junction_of, fitted_plan_of};
 
+use crate::effective_green::effective_green_of;
 use crate::fitted_plan::FittedPlan;
-use flow_model::{effective, lane_multiplier};
-use junction_model::Group;
+use crate::laws::{all_lanes_law, multiplier_law};
+use flow_model::lane_multiplier;
 use sig_base::{LaneSet, Ratio};
 use std::cmp::Ordering;
 
 /// Every lane that a junction can have.
 pub const ALL_LANES: LaneSet = LaneSet { bits: u32::MAX };
-
-fn group_at<'j>(plan: &FittedPlan<'j>, group: usize) -> &'j Group
-    requires { group < group_count (junction_of plan.now) }
-    ensures value { slice_get (junction_of plan.now).groups group ≡ Some result.now }
-    ensures rules { IsGroup result.now }
-    ensures long { result.now.times.min_green ≤ green_of (fitted_plan_of plan.now) group }
-{
-    plan.junction().rules();
-    &plan.junction().groups()[group]
-}
-
-fn green_at(plan: &FittedPlan, group: usize) -> u32
-    requires { group < group_count (junction_of plan.now) }
-    ensures value { result ≡ green_of (fitted_plan_of plan.now) group }
-    ensures most { result ≤ 300 }
-{
-    plan.junction().rules();
-    plan.plan().greens()[group]
-}
-
-/// The group's effective green in seconds.
-fn effective_of(plan: &FittedPlan, group: usize) -> u32
-    requires { group < group_count (junction_of plan.now) }
-    ensures value { IsEffectiveAt (junction_of plan.now) (fitted_plan_of plan.now) group result }
-    ensures some { 1 ≤ result }
-    ensures most { result ≤ 1000 }
-{
-    effective(&group_at(plan, group).times, green_at(plan, group))
-}
 
 /// The lane's multiplier; `None` exactly where nothing arrives.
 fn own_multiplier(plan: &FittedPlan, lane: usize) -> Option<Ratio>
@@ -55,7 +25,7 @@ fn own_multiplier(plan: &FittedPlan, lane: usize) -> Option<Ratio>
     let own = &plan.junction().lanes()[lane];
     lane_multiplier(
         own,
-        effective_of(plan, own.group as usize),
+        effective_green_of(plan, own.group as usize),
         plan.plan().cycle(),
     )
 }
@@ -112,4 +82,18 @@ pub fn multiplier(plan: &FittedPlan, lanes: LaneSet) -> Option<Ratio>
         least = with_lane(plan, lanes, lane, least);
     }
     least
+}
+
+/// The plan's multiplier: the least multiplier over all lanes.
+pub fn plan_multiplier(plan: &FittedPlan) -> Ratio
+    ensures { IsPlanMultiplier (junction_of plan.now) (fitted_plan_of plan.now)
+        (fraction_of result) }
+{
+    all_lanes_law();
+    multiplier_law();
+    plan.junction().rules();
+    match multiplier(plan, ALL_LANES) {
+        Some(multiplier) => multiplier,
+        None => unreachable!(),
+    }
 }

@@ -4,6 +4,7 @@
 #![tactic(auto)]
 
 mod clash;
+mod effective_green;
 mod fault;
 mod fit;
 mod fitted_plan;
@@ -15,13 +16,16 @@ mod plan;
 mod range;
 mod rotation;
 
+pub use effective_green::effective_green_of;
 pub use fault::PlanFault;
 pub use fit::fits;
 pub use fitted_plan::FittedPlan;
+pub use green::is_green;
 pub use laws::{
-    all_lanes_law, closed_tree_law, full_order_fits_law, gap_law, green_below_cycle_law,
-    multiplier_law, optimal_law, own_order_law, rotation_law, serving_law, shortening_law,
+    all_lanes_law, closed_tree_law, fault_law, fault_names_law, full_order_fits_law, gap_law,
+    green_below_cycle_law, multiplier_law, optimal_law, own_order_law, rotation_law, serving_law,
+    shortening_law,
 };
-pub use least_multiplier::{ALL_LANES, multiplier};
+pub use least_multiplier::{ALL_LANES, multiplier, plan_multiplier};
 pub use plan::Plan;
 pub use rotation::rotate;

@@ -1,4 +1,4 @@
-ghost use Rattle.std.specs.Prelude.{◌≡◌, ◌↔◌, IsNone, IfSome};
+ghost use Rattle.std.specs.Prelude.{◌≡◌, ◌↔◌, IsNone, IsSome, IfSome};
 ghost use Rattle.sig_base.specs.Fraction.{over, IsLowest, IsSameFraction, fraction_cmp};
 
 use crate::divisor::greatest_divisor;
@@ -29,6 +29,17 @@ impl Ratio {
             num: num / divisor,
             den: den / divisor,
         })
+    }
+
+    /// The fraction of just these parts; `None` exactly where they are not in lowest terms.
+    pub fn in_lowest_terms(num: u64, den: u64) -> Option<Ratio>
+        ensures exactly { IsSome result ↔ IsLowest num den }
+        ensures value { IfSome result (λ r. fraction_of r ≡ over num den) }
+    {
+        if den == 0 || greatest_divisor(num, den) != 1 {
+            return None;
+        }
+        Some(Ratio { num, den })
     }
 
     /// The numerator, in lowest terms.

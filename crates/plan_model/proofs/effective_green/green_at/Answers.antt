@@ -2,7 +2,7 @@ use Rattle.std.proofs.Common.{◌≡◌, slice_index_or, arith, rules}
 use Rattle.plan_model.specs.SignalPlan.{green_of}
 use Rattle.plan_model.specs.FittedPlan.{fitted_plan_of}
 use Rattle.plan_model.proofs.GreenBelowCycle.{green_most}
-use Rattle.plan_model.proofs.least_multiplier.green_at.Goals as goal
+use Rattle.plan_model.proofs.effective_green.green_at.Goals as goal
 
 pub returns-clause-most : goal.returns-clause-most
 returns-clause-most c =
