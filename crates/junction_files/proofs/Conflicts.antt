@@ -1,5 +1,5 @@
 -- The conflicts of a document in which no fault stands: their entries make a table without a fault.
-use Rattle.std.proofs.Common.{ℕ, List, Some, map, length, get_or, slice_get, ◌≡◌, ◌+◌, ◌<◌, refl, pos, option_map, IsSomeAnd, Any, ◌⊎◌, ◌<ℤ◌, inl, inr, sym, ap, ◌∙◌, arith}
+use Rattle.std.proofs.Common.{ℕ, List, [], ◌∷◌, Some, map, length, get_or, slice_get, ◌≡◌, ◌+◌, ◌<◌, refl, pos, option_map, IsSomeAnd, Any, ◌⊎◌, ◌<ℤ◌, inl, inr, sym, ap, ◌∙◌, arith}
 use Rattle.toml.specs.Data.{Data}
 use Rattle.toml.specs.View.{view}
 use Rattle.toml.specs.declared.value.Value.{Value}
@@ -12,7 +12,7 @@ use Rattle.std.proofs.lemmas.List.{length-map}
 use Rattle.std.proofs.lemmas.Option.{slice_get_within, slice_get-map, slice_get-get_or, slice_get_cases, same_Some}
 use Rattle.sig_base.specs.declared.group_times.GroupTimes.{GroupTimes}
 use Rattle.conflict_matrix.specs.declared.entry.Entry.{Entry}
-use Rattle.junction_files.specs.Meaning.{text_of, times_of, entry_of, group_number, number_of, entries_in}
+use Rattle.junction_files.specs.Meaning.{text_of, times_of, group_of, entry_of, group_number, number_of, entries_in}
 use Rattle.junction_files.proofs.Elements.{origin, any_before, any_at}
 use Rattle.std.proofs.lemmas.Int.{ints}
 use Rattle.sig_base.specs.First.{SomeBelow}
@@ -20,6 +20,7 @@ use Rattle.conflict_matrix.specs.declared.fault.Way.TheVariants.{AToB, BToA}
 use Rattle.conflict_matrix.specs.declared.fault.ConflictFault.{ConflictFault}
 use Rattle.conflict_matrix.specs.declared.fault.ConflictFault.TheVariants.{SelfConflict, Twice, Lonely, ShortIntergreen}
 use Rattle.junction_files.specs.Faults.{Involves, HasMore}
+use Rattle.junction_model.specs.declared.group.Group.{Group}
 use Rattle.junction_files.specs.declared.faults.Key.{Key}
 use Rattle.junction_files.specs.declared.faults.Kind.TheVariants as kind
 use Rattle.junction_files.specs.declared.faults.Part.TheVariants as part
@@ -47,6 +48,10 @@ conflict_value document faultless values k value same inside read =
 -- the times of the groups
 abbrev pub times_in : Data → List GroupTimes
 times_in document = map times_of (groups_in document)
+
+pub times_again : (ds : List Data) → map (λ (group : Group). group.times) (map group_of ds) ≡ map times_of ds
+times_again [] = refl
+times_again (d ∷ ds) = rw (times_again ds) refl
 
 in_groups : (document : Data) (name : List ℕ) → IsGroupName document name → group_number document name < length (times_in document)
 in_groups document name g = rw length-map (slice_get_within (groups_in document) (group_number document name) g.group g.found)
@@ -138,6 +143,14 @@ not_short document faultless k short =
       | inl a_to_b ↦ (rw (c.a.text, c.b.text, c.a_to_b.whole) at (none key.AToB)) (too_short document faultless _ _ c.a.group c.b.group _ a_to_b)
       | inr b_to_a ↦ (rw (c.a.text, c.b.text, c.b_to_a.whole) at (none key.BToA)) (too_short document faultless _ _ c.b.group c.a.group _ b_to_a)
     ]
+
+pub are_faultless : (document : Data) → IsFaultless document → table.AreFaultless (times_in document) (entries_in document)
+are_faultless document faultless = record {
+  apart = λ k below. not_self document faultless k;
+  once = λ k below. not_twice document faultless k;
+  partnered = λ g below. not_lonely document faultless g (rw length-map at below);
+  long_enough = λ k below. not_short document faultless k;
+}
 
 -- the table of the entries has no fault
 pub no_fault : (document : Data) → IsFaultless document → (f : ConflictFault) → ¬ table.IsFirstFault (times_in document) (entries_in document) f

@@ -2,7 +2,7 @@
 use Rattle.std.proofs.Common.{◌≡◌, List, [], ◌∷◌, refl, ap, arith, zero, suc, map, sym, subst, Any, String, string_bytes, ℕ, length, Some, get_or, slice_get, ◌+◌, ◌-◌, ◌<◌, ◌∙◌, add-one, sub-one, ◌↔◌, Bool, IsTrue, inl, inr, All, rules, nat_eq, false, Option, None}
 use Rattle.toml.specs.Data.{Data}
 use Rattle.toml.specs.View.{items_of, members_view, table_view, view}
-use Rattle.junction_files.specs.Document.{elements, words_in, groups_in, lanes_in, conflicts_in, element_at, counted_from_one}
+use Rattle.junction_files.specs.Document.{elements, words_in, groups_in, lanes_in, conflicts_in, links_in, element_at, counted_from_one}
 use Rattle.std.specs.BTreeMap.{BTreeMap, keys}
 use Rattle.std.specs.declared.alloc.Global.{Global}
 use Rattle.toml.specs.declared.value.Value.{Value}
@@ -33,6 +33,9 @@ lane_place document k d e = rw (add-one, sub-one, eqb-suc-zero) e
 
 pub conflict_place : (document : Data) (k : ℕ) (d : Data) → slice_get (conflicts_in document) k ≡ Some d → element_at document part.Conflict (k + 1) ≡ Some d
 conflict_place document k d e = rw (add-one, sub-one, eqb-suc-zero) e
+
+pub link_place : (document : Data) (k : ℕ) (d : Data) → slice_get (links_in document) k ≡ Some d → element_at document part.Link (k + 1) ≡ Some d
+link_place document k d e = rw (add-one, sub-one, eqb-suc-zero) e
 
 -- an element that is read from a list of values
 pub view_at : (values : List Value) (ds : List Data) (k : ℕ) (value : Value) → map view values ≡ ds → k < length values →
@@ -68,7 +71,7 @@ pub record IsAt (ds : List Data) (P : ℕ → Data → Type 0) (n : ℕ) : Type 
   pub found : slice_get ds place ≡ Some element
   pub holds : P (place + 1) element
 
-some_at : (o : Option Data) (P : Data → Type 0) → IsSomeAnd o P → (d : Data) × (o ≡ Some d) × P d
+pub some_at : (o : Option Data) (P : Data → Type 0) → IsSomeAnd o P → (d : Data) × (o ≡ Some d) × P d
 some_at None P s = absurd s
 some_at (Some d) P s = (d, refl, s)
 

@@ -1,9 +1,9 @@
 -- What follows where no fault stands: texts and numbers at the keys of an element, and the top of the document.
-use Rattle.std.proofs.Common.{ℕ, ℤ, pos, negsuc, [], Option, None, Some, IsSome, IsSomeAnd, option_and_then, ◌≡◌, ◌⊎◌, ◌<ℤ◌, ◌^◌, ◌<◌, ◌≤◌, inl, inr, refl, arith, All, length}
+use Rattle.std.proofs.Common.{ℕ, ℤ, pos, negsuc, List, [], Option, None, Some, IsSome, IsSomeAnd, option_and_then, ◌≡◌, ◌⊎◌, ◌<ℤ◌, ◌^◌, ◌<◌, ◌≤◌, inl, inr, refl, arith, All, length}
 use Rattle.std.proofs.lemmas.Int.{ints}
 use Rattle.std.proofs.lemmas.Bool.{false≢true, cases_lt}
 use Rattle.toml.specs.Data.{Data, as_str, as_integer, as_table, as_array}
-use Rattle.junction_files.specs.Document.{value_in, text_in, whole_in, element_at, list_in, elements_in, groups_in, lanes_in, conflicts_in, array_in}
+use Rattle.junction_files.specs.Document.{value_in, text_in, whole_in, element_at, list_in, elements_in, groups_in, lanes_in, conflicts_in, links_in, array_in}
 use Rattle.junction_files.specs.Faults.{IsWrong}
 use Rattle.junction_files.specs.Meaning.{natural, text_of, number_of}
 use Rattle.junction_files.specs.Faultless.{IsFaultless, IsReadable, HasNumber, HasNumberOr, HasTitle}
@@ -15,6 +15,7 @@ use Rattle.junction_files.specs.declared.faults.Kind.TheVariants as kind
 use Rattle.junction_files.specs.declared.faults.Key.TheVariants as key
 use Rattle.junction_files.specs.declared.faults.Part.TheVariants as part
 use Rattle.sig_base.proofs.Option.{some_value, some_or}
+use Rattle.junction_files.proofs.Decisions.{stable, is_title}
 
 -- no kind of fault stands at any key of an element
 pub none_at : (document : Data) → IsFaultless document → (p : Part) (n : ℕ) (d : Data) → element_at document p n ≡ Some d →
@@ -90,7 +91,7 @@ pub has_title : (document : Data) → IsFaultless document → HasTitle document
 has_title document faultless =
     let none = none_at_top document faultless in
     let name = has_text document key.Name (top_table document faultless) (none kind.Shape key.Name) in
-    record { text = name; title = rw name at (none kind.Name key.Name) }
+    record { text = name; title = stable (is_title (text_of document key.Name)) (rw name at (none kind.Name key.Name)) }
 
 pub has_least : (document : Data) → IsFaultless document → HasNumber document key.LeastCycle 1 300
 has_least document faultless =
@@ -131,3 +132,11 @@ pub count_conflicts : (document : Data) → IsFaultless document → IsBetween 1
 count_conflicts document faultless =
     let none = none_at_top document faultless in
     has_count document key.Conflict 1 120 (top_table document faultless) (none kind.Shape key.Conflict) (none kind.Count key.Conflict)
+
+few_listed : (d : Data) (k : Key) (most : ℕ) (ds : Option (List Data)) → list_in d k ≡ ds → ¬ IsSomeAnd ds (λ es. ¬ IsBetween 0 most (length es)) →
+    length (elements_in d k) ≤ most
+few_listed d k most None e counted = rw e (omega arith)
+few_listed d k most (Some ds) e counted = rw e (is_between 0 most _ counted).1
+
+pub count_links : (document : Data) → IsFaultless document → length (links_in document) ≤ 12
+count_links document faultless = few_listed document key.Link 12 (list_in document key.Link) refl (none_at_top document faultless kind.Count key.Link)

@@ -1,19 +1,41 @@
 -- The first fault of a list, of the parts and of the kinds.
-use Rattle.std.proofs.Common.{arith, ℕ, ◌+◌, ◌<◌, ◌≤◌, ◌≡◌, List, Some, length, refl, sym, ap, inl, inr, ◌∙◌}
+use Rattle.std.proofs.Common.{arith, ℕ, ◌+◌, ◌<◌, ◌≤◌, ◌≡◌, List, Some, length, refl, sym, ap, subst, get_or, inl, inr, ◌∙◌}
 use Rattle.std.proofs.lemmas.Option.{slice_get_within, same_Some}
-use Rattle.std.proofs.lemmas.Bool.{cases_order}
+use Rattle.std.proofs.lemmas.Bool.{cases_lt, cases_order}
 use Rattle.std.specs.Prelude.{slice_get}
 use Rattle.toml.specs.Data.{Data}
 use Rattle.junction_files.specs.Document.{elements_in}
 use Rattle.junction_files.specs.Faults.{Fault, Stands, IsWrong}
 use Rattle.junction_files.specs.FaultOrder.{kind_number, part_number, key_number, IsEarlierOr}
-use Rattle.junction_files.specs.FirstFault.{IsFirstOf, IsFirstFault, NoKey, IsFirstKey, IsListOf, IsFirstIn, NoneIn, fault_at}
+use Rattle.junction_files.specs.FirstFault.{all_keys, IsFirstOf, IsFirstFault, NoKey, IsFirstKey, IsListOf, IsFirstIn, NoneIn, fault_at}
 use Rattle.junction_files.specs.declared.faults.Kind.{Kind}
 use Rattle.junction_files.specs.declared.faults.Part.{Part}
 use Rattle.junction_files.specs.declared.faults.Key.{Key}
 use Rattle.junction_files.specs.declared.faults.spot.Spot.{Spot}
-use Rattle.junction_files.proofs.FaultOrder.{same_part, same_kind}
+use Rattle.junction_files.proofs.FaultOrder.{same_part, same_kind, same_key, key_number_at}
 use Rattle.junction_files.proofs.ElementAt.{IsAt, counted_next, from_counted}
+use Rattle.junction_files.specs.declared.faults.Key.TheVariants as key
+
+-- a key that breaks the rule, where none before it does
+pub first_key : (broken : Key → Type 0) (i : ℕ) → i < 26 → ((k : Key) → key_number k < i → ¬ broken k) → broken (get_or all_keys i key.Whole) →
+    IsFirstKey broken (get_or all_keys i key.Whole)
+first_key broken i below none holds = record {
+  stands = holds;
+  first = λ l wrong. elim (cases_lt (key_number l) i) [
+    | inl earlier ↦ absurd (none l earlier wrong)
+    | inr later ↦ omega (arith, key_number_at i below, later)
+  ];
+}
+
+-- one more key that doesn't
+pub no_key_more : (broken : Key → Type 0) (i : ℕ) → i < 26 → ((k : Key) → key_number k < i → ¬ broken k) → ¬ broken (get_or all_keys i key.Whole) →
+    (k : Key) → key_number k < i + 1 → ¬ broken k
+no_key_more broken i below none here k less wrong = elim (cases_lt (key_number k) i) [
+  | inl earlier ↦ none k earlier wrong
+  | inr later ↦
+      let now : key_number k ≡ key_number (get_or all_keys i key.Whole) = omega (arith, key_number_at i below, later, less) in
+      here (subst broken (same_key _ _ now) wrong)
+]
 
 -- no rule of the kind is broken before an element
 abbrev pub NoneBefore : Data → Kind → Part → List Data → ℕ → Type 0

@@ -1,23 +1,23 @@
 -- The groups of a document in which no fault stands, their names, and the numbers that these have.
-use Rattle.std.proofs.Common.{ℕ, List, Some, map, length, get_or, slice_get, ◌≡◌, ◌+◌, ◌<◌, inl, Bool, true, false, Option, None, position, ◌≢◌, ◌⊎◌, ◌≤◌, inr, refl, sym, ◌∙◌, ap, arith, Any, pos, ◌<ℤ◌, ◌≤ℤ◌, ◌+ℤ◌}
+use Rattle.std.proofs.Common.{ℕ, ℤ, IsSomeAnd, List, Some, map, length, get_or, slice_get, ◌≡◌, ◌+◌, ◌<◌, inl, Bool, true, false, Option, None, position, ◌≢◌, ◌≤◌, inr, refl, sym, ◌∙◌, ap, arith, Any, pos, ◌<ℤ◌, ◌≤ℤ◌, ◌+ℤ◌}
 use Rattle.toml.specs.Data.{Data}
 use Rattle.toml.specs.View.{view}
 use Rattle.toml.specs.declared.value.Value.{Value}
-use Rattle.junction_files.specs.Document.{groups_in, text_in}
-use Rattle.junction_files.specs.Faultless.{IsFaultless, IsGroupElement, IsGroupName, HasReference}
-use Rattle.junction_files.proofs.Faultless.{none_at, is_table, has_text, has_number, count_groups, not_below}
+use Rattle.junction_files.specs.Document.{groups_in, text_in, whole_in}
+use Rattle.junction_files.specs.Faultless.{IsFaultless, HasNumber, HasNumberOr, IsGroupElement, IsGroupName, HasReference}
+use Rattle.junction_files.proofs.Faultless.{none_at, is_table, has_text, has_number, has_number_or, count_groups, not_below}
+use Rattle.junction_files.proofs.Decisions.{stable, is_label, is_text}
 use Rattle.junction_files.proofs.ElementAt.{group_place, view_at}
-use Rattle.std.specs.Str.{bytes_eq}
 use Rattle.std.specs.List.{position_or_len}
 use Rattle.std.proofs.lemmas.Bool.{false≢true, false_from_ne_true, cases_lt}
 use Rattle.std.proofs.lemmas.List.Sums.{fails_before_first, position_or_len_is}
 use Rattle.std.proofs.lemmas.List.Quantifiers.{position-Some}
-use Rattle.std.proofs.lemmas.Option.{slice_get-get_or, slice_get_within, get_or_from_slice_get, same_Some, none-some}
+use Rattle.std.proofs.lemmas.Option.{slice_get-get_or, slice_get_within, get_or_from_slice_get, same_Some}
 use Rattle.std.proofs.lemmas.Slice.Eq.{bytes_eq-Decides}
 use Rattle.junction_files.specs.Faults.{IsNamed, IsUnknown}
-use Rattle.junction_files.specs.Meaning.{text_of, has_name, group_number, group_of}
+use Rattle.junction_files.specs.Meaning.{natural, number_or, number_of, text_of, has_name, group_number, group_of}
 use Rattle.junction_files.specs.declared.faults.Key.{Key}
-use Rattle.junction_files.proofs.Elements.{decision, some_of, any_before, all_of_map, pairs_of_map}
+use Rattle.junction_files.proofs.Elements.{some_of, any_before, all_of_map, pairs_of_map}
 use Rattle.std.proofs.lemmas.Int.{ints}
 use Rattle.std.proofs.lemmas.List.{length-map}
 use Rattle.junction_model.specs.declared.group.Group.{Group}
@@ -33,13 +33,14 @@ group_element document faultless k d found =
     let table = is_table document faultless part.Group (k + 1) d at in
     let name = has_text d key.Name table (none kind.Shape key.Name) in
     record {
-      label = record { text = name; label = λ broken. (rw name at (none kind.Name key.Name)) (inl broken) };
+      label = record { text = name; label = stable (is_label (text_of d key.Name)) (λ broken. (rw name at (none kind.Name key.Name)) (inl broken)) };
       times = record {
         min_green = has_number d key.MinGreen _ _ table (none kind.Shape key.MinGreen) (none kind.Range key.MinGreen);
         amber = has_number d key.Amber _ _ table (none kind.Shape key.Amber) (none kind.Range key.Amber);
         red_amber = has_number d key.RedAmber _ _ table (none kind.Shape key.RedAmber) (none kind.Range key.RedAmber);
         start_lost = has_number d key.StartLost _ _ table (none kind.Shape key.StartLost) (none kind.Range key.StartLost);
         end_gain = has_number d key.EndGain _ _ table (none kind.Shape key.EndGain) (none kind.Range key.EndGain);
+        max_green = has_number_or 300 d key.MaxGreen 1 300 (omega arith) (omega arith) (none kind.Range key.MaxGreen);
       };
     }
 
@@ -48,13 +49,6 @@ pub group_value : (document : Data) → IsFaultless document → (values : List 
     map view values ≡ groups_in document → k < length values → value ≡ get_or values k value → IsGroupElement (view value)
 group_value document faultless values k value same inside read =
     group_element document faultless k (view value) (view_at values (groups_in document) k value same inside read)
-
-is_text : (o : Option (List ℕ)) (name : List ℕ) → (o ≡ Some name) ⊎ ¬ (o ≡ Some name)
-is_text None name = inr (λ e. none-some name e)
-is_text (Some t) name = elim (decision (bytes_eq t name) (t ≡ name) (bytes_eq-Decides t name)) [
-  | inl same ↦ inl (ap Some same)
-  | inr other ↦ inr (λ e. other (same_Some t name e))
-]
 
 has_name_true : (name : List ℕ) (d : Data) → text_in d key.Name ≡ Some name → has_name name d ≡ true
 has_name_true name d e = (bytes_eq-Decides (text_of d key.Name) name).1 (rw e refl)
@@ -129,23 +123,31 @@ effective lost gain green h = elim (cases_lt lost (green + gain)) [
   | inr more ↦ absurd (h (omega (arith, ints)))
 ]
 
+most_enough : (d : Data) (o : Option ℤ) → whole_in d key.MaxGreen ≡ o → HasNumberOr 300 d key.MaxGreen 1 300 → HasNumber d key.MinGreen 1 120 →
+    ¬ IsSomeAnd (whole_in d key.MaxGreen) (λ most. IsSomeAnd (whole_in d key.MinGreen) (λ least. most <ℤ least)) →
+    number_of d key.MinGreen ≤ number_or 300 d key.MaxGreen
+most_enough d None e most least none = let few = least.greatest in rw e (omega arith)
+most_enough d (Some z) e most least none =
+    let same : z ≡ pos (natural z) = rw e at most.whole in
+    rw e (gain_within (natural z) (number_of d key.MinGreen) (rw (e, least.whole, same) at none))
+
 group_rules : (document : Data) → IsFaultless document → (k : ℕ) (d : Data) → slice_get (groups_in document) k ≡ Some d → IsGroup (group_of d)
 group_rules document faultless k d found =
     let times = (group_element document faultless k d found).times in
     let none = none_at document faultless part.Group (k + 1) d (group_place document k d found) in
     record {
+      label = (group_element document faultless k d found).label.label;
       times = record {
         shown = times.min_green.least;
         min_green = times.min_green.greatest;
         amber = times.amber.greatest;
         red_amber = times.red_amber.greatest;
         lost_and_gained = (times.start_lost.greatest, times.end_gain.greatest);
-        max_green = (omega arith, omega arith);
+        max_green = (times.max_green.least, times.max_green.greatest);
       };
       gained_in_amber = gain_within _ _ (rw (times.end_gain.whole, times.amber.whole) at (none kind.EndGain key.EndGain));
       some_effective = effective _ _ _ (rw (times.start_lost.whole, times.end_gain.whole, times.min_green.whole) at (none kind.NoEffective key.StartLost));
-      not_below = let most = times.min_green.greatest in omega arith;
-      longest = refl;
+      not_below = most_enough d (whole_in d key.MaxGreen) refl times.max_green times.min_green (none kind.MaxGreen key.MaxGreen);
     }
 
 pub are_groups : (document : Data) → IsFaultless document → AreGroups (map group_of (groups_in document))

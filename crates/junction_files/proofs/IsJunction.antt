@@ -1,17 +1,18 @@
 -- What a document in which no fault stands spells keeps the rules of a junction.
-use Rattle.std.proofs.Common.{ℕ, List, [], Option, None, Some, IfSome, map, length, slice_get, Any, ◌≡◌, ◌⊎◌, ◌<◌, inl, inr, refl, ap, ◌∙◌}
+use Rattle.std.proofs.Common.{ℕ, List, Option, None, Some, IfSome, map, length, slice_get, Any, ◌≡◌, ◌⊎◌, ◌<◌, inl, inr, refl, ap, ◌∙◌}
 use Rattle.std.proofs.lemmas.Bool.{cases_eq}
 use Rattle.std.proofs.lemmas.List.{length-map}
 use Rattle.std.proofs.lemmas.Option.{slice_get-map, slice_get-get_or, slice_get_within}
 use Rattle.sig_base.specs.First.{SomeBelow}
 use Rattle.sig_base.specs.declared.group_times.GroupTimes.{GroupTimes}
-use Rattle.conflict_matrix.specs.Matrix.{Matrix, IsMatrix, AreConflicting, intergreen_of}
+use Rattle.conflict_matrix.specs.Matrix.{Matrix, IsMatrix, with_links, AreConflicting, intergreen_of}
 use Rattle.conflict_matrix.specs.declared.entry.Entry.{Entry}
+use Rattle.conflict_matrix.specs.declared.link.Link.{Link}
 use Rattle.conflict_matrix.specs.Entries.{Involves, Tells, IsTooShort, AreEntries, AreFaultless, IsTableOf}
 use Rattle.junction_model.specs.declared.group.Group.{Group}
 use Rattle.junction_model.specs.Rules.{AreConflicts, IsLongEnough, AreCycles, IsJunction}
 use Rattle.junction_files.proofs.Elements.{some_of, any_at}
-use Rattle.junction_files.proofs.Faultless.{not_below, has_least, has_greatest}
+use Rattle.junction_files.proofs.Faultless.{not_below, has_title, has_least, has_greatest}
 use Rattle.toml.specs.Data.{Data}
 use Rattle.junction_model.specs.Junction.{JunctionView}
 use Rattle.junction_files.specs.Document.{groups_in, lanes_in}
@@ -66,15 +67,14 @@ enough_at times es m faultless t i j w from to found at_i at_j =
     ])))
 
 pub are_conflicts : (groups : List Group) (times : List GroupTimes) (es : List Entry) (m : Matrix) → times ≡ map (λ (group : Group). group.times) groups →
-    AreEntries times es → AreFaultless times es → IsTableOf (length times) es m → m.links ≡ [] → IsMatrix m → AreConflicts groups m
-are_conflicts groups times es m same entries faultless t unlinked matrix =
+    AreEntries times es → AreFaultless times es → IsTableOf (length times) es m → IsMatrix m → AreConflicts groups m
+are_conflicts groups times es m same entries faultless t matrix =
     let size : length times ≡ length groups = rw same (length-map groups (λ (group : Group). group.times)) in
     let times_at : (i : ℕ) (group : Group) → slice_get groups i ≡ Some group → slice_get times i ≡ Some group.times =
     λ i group found. rw (same, slice_get-map (λ (g : Group). g.times) groups i, found) refl in
     record {
       table = matrix;
       same_groups = t.same_groups ∙ size;
-      unlinked = unlinked;
       partnered = λ i below. let in_times : i < length times = rw t.same_groups at below in
           rw t.same_groups (partner times es m entries t i in_times (some_of (Involves i) (involves_or_not i) es (faultless.partnered i in_times)));
       long_enough = λ i _ j _. if_some (intergreen_of m i j)
@@ -83,6 +83,19 @@ are_conflicts groups times es m same entries faultless t unlinked matrix =
           (λ from at_i. if_some (slice_get groups j) (λ to. IsLongEnough from to w)
           (λ to at_j. enough_at times es m faultless t i j w from to found (times_at i from at_i) (times_at j to at_j))));
     }
+
+-- links change nothing of that
+pub linked_rules : (groups : List Group) (m : Matrix) (links : List Link) → AreConflicts groups m → IsMatrix (with_links m links) →
+    AreConflicts groups (with_links m links)
+linked_rules groups m links conflicts matrix = record {
+  table = matrix;
+  same_groups = conflicts.same_groups;
+  partnered = conflicts.partnered;
+  long_enough = conflicts.long_enough;
+}
+
+pub linked_table : (groups : ℕ) (es : List Entry) (m : Matrix) (links : List Link) → IsTableOf groups es m → IsTableOf groups es (with_links m links)
+linked_table groups es m links t = record { same_groups = t.same_groups; intergreens = t.intergreens }
 
 are_cycles : (document : Data) → IsFaultless document → AreCycles (number_of document key.LeastCycle) (number_of document key.GreatestCycle)
 are_cycles document faultless =
@@ -103,6 +116,7 @@ junction_in document conflicts = record {
 
 pub is_junction : (document : Data) → IsFaultless document → (m : Matrix) → AreConflicts (map group_of (groups_in document)) m → IsJunction (junction_in document m)
 is_junction document faultless m conflicts = record {
+  title = (has_title document faultless).title;
   cycles = are_cycles document faultless;
   groups = are_groups document faultless;
   lanes = are_lanes document faultless;

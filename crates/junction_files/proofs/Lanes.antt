@@ -6,6 +6,7 @@ use Rattle.toml.specs.declared.value.Value.{Value}
 use Rattle.junction_files.specs.Document.{lanes_in, groups_in}
 use Rattle.junction_files.specs.Faultless.{IsFaultless, IsLaneElement}
 use Rattle.junction_files.proofs.Faultless.{none_at, is_table, has_text, has_number, has_number_or, not_idle, count_lanes}
+use Rattle.junction_files.proofs.Decisions.{stable, is_label}
 use Rattle.junction_files.proofs.ElementAt.{lane_place, view_at}
 use Rattle.junction_files.proofs.Groups.{reference_at}
 use Rattle.std.proofs.lemmas.List.{length-map}
@@ -26,7 +27,7 @@ lane_element document faultless k d found =
     let name = has_text d key.Name table (none kind.Shape key.Name) in
     let group = has_text d key.Group table (none kind.Shape key.Group) in
     record {
-      label = record { text = name; label = λ broken. (rw name at (none kind.Name key.Name)) (inl broken) };
+      label = record { text = name; label = stable (is_label (text_of d key.Name)) (λ broken. (rw name at (none kind.Name key.Name)) (inl broken)) };
       group = reference_at document faultless d key.Group group (none kind.Unknown key.Group);
       arrival = has_number d key.Arrival _ _ table (none kind.Shape key.Arrival) (none kind.Range key.Arrival);
       saturation = has_number d key.Saturation _ _ table (none kind.Shape key.Saturation) (none kind.Range key.Saturation);
@@ -41,6 +42,7 @@ lane_value document faultless values k value same inside read =
 
 lane_rules : (document : Data) (d : Data) → IsLaneElement document d → IsLane (length (map group_of (groups_in document))) (lane_of document d)
 lane_rules document d lane = record {
+  label = lane.label.label;
   served = rw length-map (slice_get_within (groups_in document) _ lane.group.group.group lane.group.group.found);
   flows = record {
     arrival = lane.arrival.greatest;

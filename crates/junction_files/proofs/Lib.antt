@@ -1,12 +1,17 @@
 mod Conflicts
+mod DecidedFaults
+mod Decisions
 mod ElementAt
 mod Elements
 mod FaultOrder
 mod Faultless
 mod FirstFault
+mod FirstOfAll
+mod FirstVersion
 mod Groups
 mod IsJunction
 mod Lanes
+mod Links
 mod Members
 mod OneJunction
 mod OneRefusal
@@ -14,5 +19,9 @@ mod PrintedConflicts
 mod PrintedDocument
 mod PrintedGroups
 mod PrintedLanes
+mod PrintedLinks
+mod PrintedNames
 mod PrintedTop
+mod PrintedVersion
 mod Spells
+mod Totality

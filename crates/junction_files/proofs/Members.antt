@@ -4,15 +4,19 @@ use Rattle.std.specs.BTreeMap.{insert_entry}
 use Rattle.std.specs.Ordering.{match_ordering}
 use Rattle.std.specs.String.{string_cmp}
 use Rattle.std.specs.declared.alloc.Global.{Global}
-use Rattle.toml.specs.Data.{Members, member, table, items_depth, members_depth, items_have_valid_dates, members_have_valid_dates}
+use Rattle.toml.specs.Data.{Data, Members, member, table, items_depth, members_depth, items_have_valid_dates, members_have_valid_dates}
 use Rattle.toml.specs.View.{view, members_view, table_view, items_of}
 use Rattle.toml.specs.declared.value.Value.{Value, Table}
-use Rattle.junction_files.specs.Printing.{insert_member, tables, group_members, lane_members, conflict_members, file_members}
+use Rattle.junction_files.specs.Printing.{insert_member, tables, with_some_tables, group_members, lane_members, conflict_members, link_members, printed_version, list_members, file_members}
 use Rattle.std.proofs.lemmas.List.{take_more, map_push}
 use Rattle.std.proofs.lemmas.Option.{slice_get_within, get_or_from_slice_get}
 use Rattle.toml.proofs.Views.{view-Table}
 use Rattle.conflict_matrix.specs.Pairs.{pairs_of}
 use Rattle.junction_model.specs.Junction.{JunctionView}
+use Rattle.junction_model.specs.declared.group.Group.{Group}
+use Rattle.junction_files.specs.declared.document.Version.{Version}
+use Rattle.junction_files.specs.declared.document.Version.TheVariants.{First, Second}
+use Rattle.junction_files.specs.declared.faults.Key.TheVariants as key
 
 at_order : (o : Ordering) (k : String Global) (v : Value) (e : String Global × Value) (es fs : List (String Global × Value)) (ms : Members) → members_view fs ≡ ms →
     members_view (match_ordering o ((k, v) ∷ e ∷ es) ((e.0, v) ∷ es) (e ∷ fs))
@@ -51,16 +55,43 @@ list_dates : {X : Type 0} (f : X → Members) (xs : List X) → ((x : X) → mem
 list_dates f [] none = refl
 list_dates f (x ∷ xs) none = rw (none, list_dates f xs none) refl
 
-pub file_depth : (junction : JunctionView) → members_depth (file_members junction) ≤ 80
-file_depth junction =
-    let groups = list_depth group_members junction.groups (λ g. refl) in
-    let lanes = list_depth (lane_members junction.groups) junction.lanes (λ l. refl) in
-    let conflicts = list_depth (conflict_members junction.groups junction.conflicts) (pairs_of junction.conflicts) (λ p. refl) in
-    omega (arith, groups, lanes, conflicts)
+group_depth : (v : Version) (g : Group) → members_depth (group_members v g) ≡ 0
+group_depth First g = refl
+group_depth Second g = refl
 
-pub file_dates : (junction : JunctionView) → members_have_valid_dates (file_members junction) ≡ true
-file_dates junction = rw (
-  list_dates group_members junction.groups (λ g. refl),
-  list_dates (lane_members junction.groups) junction.lanes (λ l. refl),
-  list_dates (conflict_members junction.groups junction.conflicts) (pairs_of junction.conflicts) (λ p. refl),
+group_dates : (v : Version) (g : Group) → members_have_valid_dates (group_members v g) ≡ true
+group_dates First g = refl
+group_dates Second g = refl
+
+linked_depth : (v : Version) (j : JunctionView) (links : List Data) → items_depth (items_of links) ≤ 1 →
+    members_depth (with_some_tables key.Link links (list_members v j)) ≤ 80
+linked_depth v j [] flat =
+    let groups = list_depth (group_members v) j.groups (group_depth v) in
+    let lanes = list_depth (lane_members j.groups) j.lanes (λ l. refl) in
+    let conflicts = list_depth (conflict_members j.groups j.conflicts) (pairs_of j.conflicts) (λ p. refl) in
+    omega (arith, groups, lanes, conflicts)
+linked_depth v j (d ∷ ds) flat =
+    let groups = list_depth (group_members v) j.groups (group_depth v) in
+    let lanes = list_depth (lane_members j.groups) j.lanes (λ l. refl) in
+    let conflicts = list_depth (conflict_members j.groups j.conflicts) (pairs_of j.conflicts) (λ p. refl) in
+    omega (arith, groups, lanes, conflicts, flat)
+
+pub file_depth : (j : JunctionView) → members_depth (file_members j) ≤ 80
+file_depth j = linked_depth (printed_version j) j _ (list_depth (link_members j.groups) j.conflicts.links (λ l. refl))
+
+linked_dates : (v : Version) (j : JunctionView) (links : List Data) → items_have_valid_dates (items_of links) ≡ true →
+    members_have_valid_dates (with_some_tables key.Link links (list_members v j)) ≡ true
+linked_dates v j [] none = rw (
+  list_dates (group_members v) j.groups (group_dates v),
+  list_dates (lane_members j.groups) j.lanes (λ l. refl),
+  list_dates (conflict_members j.groups j.conflicts) (pairs_of j.conflicts) (λ p. refl),
 ) refl
+linked_dates v j (d ∷ ds) none = rw (
+  list_dates (group_members v) j.groups (group_dates v),
+  list_dates (lane_members j.groups) j.lanes (λ l. refl),
+  list_dates (conflict_members j.groups j.conflicts) (pairs_of j.conflicts) (λ p. refl),
+  none,
+) refl
+
+pub file_dates : (j : JunctionView) → members_have_valid_dates (file_members j) ≡ true
+file_dates j = linked_dates (printed_version j) j _ (list_dates (link_members j.groups) j.conflicts.links (λ l. refl))

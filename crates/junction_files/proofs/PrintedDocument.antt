@@ -1,45 +1,116 @@
--- The document that a junction is printed as: its lists, and the names and keys in them.
-use Rattle.std.proofs.Common.{ℕ, List, Some, All, AllPairs, Any, IsSomeAnd, option_map, take, length, slice_get, ◌≡◌, ◌≢◌, ◌+◌, ◌-◌, ◌<◌, ◌≤◌, inl, inr, sym, ap, ◌∙◌, arith, refl, pos, Bool, true, ◌&&◌, [], ◌∷◌, map, ◌⊎◌, ◌<ℤ◌}
-use Rattle.std.proofs.lemmas.Bool.{and_parts}
+-- The document that a junction is printed as: what stands at its top and at its groups, and its lists.
+use Rattle.std.proofs.Common.{ℕ, ℤ, List, Option, None, Some, Any, IsSomeAnd, option_map, take, length, slice_get, ◌≡◌, ◌+◌, ◌-◌, ◌<◌, sym, ap, ◌∙◌, arith, refl, pos, [], ◌∷◌}
 use Rattle.std.proofs.lemmas.List.{get_or-take, length-take}
-use Rattle.std.proofs.lemmas.Option.{slice_get-map, slice_get-get_or, get_or_from_slice_get, slice_get_cases, same_Some}
-use Rattle.toml.specs.Data.{Data, Members, table}
+use Rattle.std.proofs.lemmas.Option.{slice_get-map, slice_get-get_or}
+use Rattle.toml.specs.Data.{Data, Members, string, integer, array, table}
+use Rattle.toml.specs.View.{items_of}
 use Rattle.conflict_matrix.specs.Pairs.{pairs_of}
 use Rattle.junction_model.specs.Junction.{JunctionView}
-use Rattle.junction_model.specs.Rules.{IsJunction}
-use Rattle.junction_files.specs.Document.{groups_in, lanes_in, conflicts_in, counted_from_one, word_of, part_keys, text_in}
-use Rattle.junction_files.specs.Printing.{tables, group_members, lane_members, conflict_members, file_members, HasTexts, label_at}
+use Rattle.junction_files.specs.Document.{groups_in, lanes_in, conflicts_in, links_in, elements_in, value_in, text_in, whole_in, version_of, counted_from_one}
+use Rattle.junction_files.specs.Printing.{tables, with_some_tables, group_members, lane_members, conflict_members, conflict_tables, link_members, printed_version, version_number, list_members, file_members}
 use Rattle.junction_files.proofs.ElementAt.{elements-items_of, from_counted}
-use Rattle.junction_files.proofs.Elements.{origin, any_at, one_place, all_at, pair_at, any_rest}
+use Rattle.junction_files.proofs.Elements.{origin}
 use Rattle.junction_model.specs.declared.group.Group.{Group}
-use Rattle.junction_files.specs.Faults.{IsNamed, IsOtherWord, IsWrongLabel}
-use Rattle.std.specs.List.{list_any}
-use Rattle.std.specs.Str.{bytes_eq}
-use Rattle.std.proofs.lemmas.List.Folds.{Any-from_list_any}
-use Rattle.std.proofs.lemmas.Slice.Eq.{bytes_eq-Decides}
-use Rattle.std.proofs.lemmas.Int.{ints}
-use Rattle.sig_base.specs.Text.{IsLabel}
-use Rattle.junction_files.specs.declared.faults.Part.{Part}
+use Rattle.junction_files.specs.declared.document.Version.{Version}
+use Rattle.junction_files.specs.declared.document.Version.TheVariants.{First, Second}
+use Rattle.junction_files.specs.declared.faults.Key.{Key}
 use Rattle.junction_files.specs.declared.faults.Key.TheVariants as key
-
--- what printing knows of a junction
-pub record IsPrinted (junction : JunctionView) : Type 0 where
-  pub rules : IsJunction junction
-  pub texts : HasTexts junction
-  pub few_pairs : length (pairs_of junction.conflicts) ≤ 120
 
 abbrev pub document_of : JunctionView → Data
 document_of junction = table (file_members junction)
 
-pub group_list : (junction : JunctionView) → groups_in (document_of junction) ≡ tables group_members junction.groups
-group_list junction = elements-items_of (tables group_members junction.groups)
+abbrev pub link_tables : JunctionView → List Data
+link_tables junction = tables (link_members junction.groups) junction.conflicts.links
+
+pub text_at : (d : Data) (k : Key) (text : List ℕ) → value_in d k ≡ Some (string text) → text_in d k ≡ Some text
+text_at d k text e = rw e refl
+
+pub whole_at : (d : Data) (k : Key) (z : ℤ) → value_in d k ≡ Some (integer z) → whole_in d k ≡ Some z
+whole_at d k z e = rw e refl
+
+list_at : (d : Data) (k : Key) (ds : List Data) → value_in d k ≡ Some (array (items_of ds)) → elements_in d k ≡ ds
+list_at d k ds e = rw e (elements-items_of ds)
+
+-- a list where it isn't empty
+abbrev pub some_array : List Data → Option Data
+some_array [] = None
+some_array (d ∷ ds) = Some (array (items_of (d ∷ ds)))
+
+some_list_at : (d : Data) (k : Key) (ds : List Data) → value_in d k ≡ some_array ds → elements_in d k ≡ ds
+some_list_at d k [] e = rw e refl
+some_list_at d k (f ∷ ds) e = list_at d k (f ∷ ds) e
+
+-- what stands at the keys of the top
+pub record HasTop (d : Data) (v : Version) (j : JunctionView) (linked : List Data) : Type 0 where
+  pub version : value_in d key.Version ≡ Some (integer (pos (version_number v)))
+  pub name : value_in d key.Name ≡ Some (string j.title)
+  pub least_cycle : value_in d key.LeastCycle ≡ Some (integer (pos j.least_cycle))
+  pub greatest_cycle : value_in d key.GreatestCycle ≡ Some (integer (pos j.greatest_cycle))
+  pub groups : value_in d key.Group ≡ Some (array (items_of (tables (group_members v) j.groups)))
+  pub lanes : value_in d key.Lane ≡ Some (array (items_of (tables (lane_members j.groups) j.lanes)))
+  pub conflicts : value_in d key.Conflict ≡ Some (array (items_of (conflict_tables j.groups j.conflicts)))
+  pub links : value_in d key.Link ≡ some_array linked
+
+has_top : (v : Version) (j : JunctionView) (links : List Data) → HasTop (table (with_some_tables key.Link links (list_members v j))) v j links
+has_top v j [] = record {
+  version = refl;
+  name = refl;
+  least_cycle = refl;
+  greatest_cycle = refl;
+  groups = refl;
+  lanes = refl;
+  conflicts = refl;
+  links = refl;
+}
+has_top v j (d ∷ ds) = record {
+  version = refl;
+  name = refl;
+  least_cycle = refl;
+  greatest_cycle = refl;
+  groups = refl;
+  lanes = refl;
+  conflicts = refl;
+  links = refl;
+}
+
+pub top : (j : JunctionView) → HasTop (document_of j) (printed_version j) j (link_tables j)
+top j = has_top (printed_version j) j (link_tables j)
+
+version_at : (d : Data) (v : Version) → value_in d key.Version ≡ Some (integer (pos (version_number v))) → version_of d ≡ v
+version_at d First e = rw e refl
+version_at d Second e = rw e refl
+
+pub same_version : (j : JunctionView) → version_of (document_of j) ≡ printed_version j
+same_version j = version_at (document_of j) (printed_version j) (top j).version
+
+pub group_list : (junction : JunctionView) → groups_in (document_of junction) ≡ tables (group_members (printed_version junction)) junction.groups
+group_list junction = list_at (document_of junction) key.Group _ (top junction).groups
 
 pub lane_list : (junction : JunctionView) → lanes_in (document_of junction) ≡ tables (lane_members junction.groups) junction.lanes
-lane_list junction = elements-items_of (tables (lane_members junction.groups) junction.lanes)
+lane_list junction = list_at (document_of junction) key.Lane _ (top junction).lanes
 
 pub conflict_list : (junction : JunctionView) →
     conflicts_in (document_of junction) ≡ tables (conflict_members junction.groups junction.conflicts) (pairs_of junction.conflicts)
-conflict_list junction = elements-items_of (tables (conflict_members junction.groups junction.conflicts) (pairs_of junction.conflicts))
+conflict_list junction = list_at (document_of junction) key.Conflict _ (top junction).conflicts
+
+pub link_list : (junction : JunctionView) → links_in (document_of junction) ≡ tables (link_members junction.groups) junction.conflicts.links
+link_list junction = some_list_at (document_of junction) key.Link _ (top junction).links
+
+-- what stands at the keys of a group
+pub record HasGroup (d : Data) (g : Group) : Type 0 where
+  pub name : value_in d key.Name ≡ Some (string g.label)
+  pub min_green : value_in d key.MinGreen ≡ Some (integer (pos g.times.min_green))
+  pub amber : value_in d key.Amber ≡ Some (integer (pos g.times.amber))
+  pub red_amber : value_in d key.RedAmber ≡ Some (integer (pos g.times.red_amber))
+  pub start_lost : value_in d key.StartLost ≡ Some (integer (pos g.times.start_lost))
+  pub end_gain : value_in d key.EndGain ≡ Some (integer (pos g.times.end_gain))
+
+pub has_group : (v : Version) (g : Group) → HasGroup (table (group_members v g)) g
+has_group First g = record { name = refl; min_green = refl; amber = refl; red_amber = refl; start_lost = refl; end_gain = refl }
+has_group Second g = record { name = refl; min_green = refl; amber = refl; red_amber = refl; start_lost = refl; end_gain = refl }
+
+pub group_label : (v : Version) (g : Group) → text_in (table (group_members v g)) key.Name ≡ Some g.label
+group_label v g = text_at (table (group_members v g)) key.Name g.label (has_group v g).name
 
 -- what stands at a place of a list stands at that place of its tables
 pub table_at : {X : Type 0} (f : X → Members) (xs : List X) (k : ℕ) (x : X) → slice_get xs k ≡ Some x → slice_get (tables f xs) k ≡ Some (table (f x))
@@ -73,57 +144,3 @@ pub any_origin : {X : Type 0} (f : X → Members) (P : Data → Type 0) (xs : Li
 any_origin f P xs (k, d, inside, at, holds) =
     let b = origin (λ x. table (f x)) P xs k (rw (slice_get-get_or (tables f xs) k d inside, at) holds) in
     (k, b.0, b.1, b.2)
-
-pub group_here : (groups : List Group) (i : ℕ) → i < length groups → (g : Group) × (slice_get groups i ≡ Some g)
-group_here groups i inside = elim (slice_get_cases groups i).1 [
-  | inl (g, within, found, same) ↦ (g, found)
-  | inr (past, missing) ↦ absurd (omega arith)
-]
-
-pub label_here : (groups : List Group) (i : ℕ) (g : Group) → slice_get groups i ≡ Some g → label_at groups i ≡ g.label
-label_here groups i g found = rw found refl
-
--- it names a group
-pub label_names_group : (j : JunctionView) (i : ℕ) → i < length j.groups → Any (IsNamed (label_at j.groups i)) (groups_in (document_of j))
-label_names_group j i inside =
-    let here = group_here j.groups i inside in
-    rw group_list (any_at (IsNamed (label_at j.groups i)) _ i _ (table_at group_members j.groups i here.0 here.1) (rw (label_here j.groups i here.0 here.1) refl))
-
--- it names one group
-pub same_group : (j : JunctionView) → IsPrinted j → (i k : ℕ) → i < length j.groups → k < length j.groups →
-    label_at j.groups i ≡ label_at j.groups k → i ≡ k
-same_group j p i k first last same =
-    let g = group_here j.groups i first in
-    let h = group_here j.groups k last in
-    one_place (λ (e : Group). e.label) j.groups i k g.0 h.0 p.rules.groups.distinct g.1 h.1
-    (rw (label_here j.groups i g.0 g.1, label_here j.groups k h.0 h.1) at same)
-
--- whether each word is a listed key
-abbrev pub are_keys : Part → List (List ℕ) → Bool
-are_keys p [] = true
-are_keys p (word ∷ words) = list_any (bytes_eq word) (map word_of (part_keys p)) && are_keys p words
-
-pub no_other_word : (p : Part) (words : List (List ℕ)) → are_keys p words ≡ true → ¬ Any (IsOtherWord p) words
-no_other_word p [] facts any = omega (arith, any.2)
-no_other_word p (word ∷ words) facts any =
-    let listed = map word_of (part_keys p) in
-    let parts = and_parts (list_any (bytes_eq word) listed) (are_keys p words) facts in
-    let (k, found, inside, at, same) = Any-from_list_any (bytes_eq word) listed parts.0 in
-    let here = get_or_from_slice_get listed k found word (slice_get-get_or listed k found inside ∙ ap Some at) in
-    no_other_word p words parts.1 (any_rest (IsOtherWord p) word words (λ other. other (k, inside, here ∙ sym ((bytes_eq-Decides word found).0 same))) any)
-
-pub in_bounds : (n low high : ℕ) → low ≤ n → n ≤ high → ¬ ((pos n <ℤ pos low) ⊎ (pos high <ℤ pos n))
-in_bounds n low high least greatest (inl less) = omega (arith, ints)
-in_bounds n low high least greatest (inr more) = omega (arith, ints)
-
--- a label that keeps its rule and differs from all others
-pub good_label : {X : Type 0} (label : X → List ℕ) (f : X → Members) → ((x : X) → text_in (table (f x)) key.Name ≡ Some (label x)) → (xs : List X) →
-    All (λ x. IsLabel (label x)) xs → AllPairs (λ a b. label a ≢ label b) xs → (k : ℕ) (x : X) → slice_get xs k ≡ Some x →
-    ¬ IsWrongLabel (tables f xs) (k + 1) (table (f x))
-good_label label f named xs labels distinct k x found wrong = elim (rw named at wrong) [
-  | inl broken ↦ broken (all_at (λ y. IsLabel (label y)) xs k x labels found)
-  | inr any ↦
-      let before = origin_before f (IsNamed (label x)) xs k any in
-      pair_at (λ a b. label a ≢ label b) xs before.0 k before.1 x distinct before.2 before.3 found
-      (same_Some _ _ (rw named at before.4))
-]

@@ -24,12 +24,16 @@ kind_number kind.ShortIntergreen = 11
 kind_number kind.EndGain = 12
 kind_number kind.NoEffective = 13
 kind_number kind.NoFlow = 14
+kind_number kind.MaxGreen = 15
+kind_number kind.SelfLink = 16
+kind_number kind.LinkTwice = 17
 
 abbrev pub part_number : Part → ℕ
 part_number part.Top = 0
 part_number part.Group = 1
 part_number part.Lane = 2
 part_number part.Conflict = 3
+part_number part.Link = 4
 
 -- the whole element, then its listed keys in the order of their table, then any other
 abbrev pub key_number : Key → ℕ
@@ -41,19 +45,24 @@ key_number key.GreatestCycle = 4
 key_number key.Group = 5
 key_number key.Lane = 6
 key_number key.Conflict = 7
-key_number key.MinGreen = 8
-key_number key.Amber = 9
-key_number key.RedAmber = 10
-key_number key.StartLost = 11
-key_number key.EndGain = 12
-key_number key.Arrival = 13
-key_number key.Saturation = 14
-key_number key.Limit = 15
-key_number key.A = 16
-key_number key.B = 17
-key_number key.AToB = 18
-key_number key.BToA = 19
-key_number key.Other = 20
+key_number key.Link = 8
+key_number key.MinGreen = 9
+key_number key.Amber = 10
+key_number key.RedAmber = 11
+key_number key.StartLost = 12
+key_number key.EndGain = 13
+key_number key.MaxGreen = 14
+key_number key.Arrival = 15
+key_number key.Saturation = 16
+key_number key.Limit = 17
+key_number key.A = 18
+key_number key.B = 19
+key_number key.AToB = 20
+key_number key.BToA = 21
+key_number key.Leader = 22
+key_number key.Follower = 23
+key_number key.After = 24
+key_number key.Other = 25
 
 -- the lower number, or the same and then the rest
 abbrev pub IsEarlierOr : ℕ → ℕ → Type 0 → Type 0

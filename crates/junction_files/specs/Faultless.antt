@@ -35,15 +35,15 @@ pub record HasNumberOr (default : ℕ) (d : Data) (k : Key) (low high : ℕ) : T
   pub least : low ≤ number_or default d k
   pub greatest : number_or default d k ≤ high
 
--- a text that doesn't break the rule of titles
+-- a text that keeps the rule of titles
 pub record HasTitle (d : Data) : Type 0 where
   pub text : text_in d key.Name ≡ Some (text_of d key.Name)
-  pub title : ¬ ¬ IsTitle (text_of d key.Name)
+  pub title : IsTitle (text_of d key.Name)
 
--- a text that doesn't break the rule of labels
+-- a text that keeps the rule of labels
 pub record HasLabel (d : Data) : Type 0 where
   pub text : text_in d key.Name ≡ Some (text_of d key.Name)
-  pub label : ¬ ¬ IsLabel (text_of d key.Name)
+  pub label : IsLabel (text_of d key.Name)
 
 pub record HasTimes (d : Data) : Type 0 where
   pub min_green : HasNumberOf part.Group d key.MinGreen
@@ -51,6 +51,7 @@ pub record HasTimes (d : Data) : Type 0 where
   pub red_amber : HasNumberOf part.Group d key.RedAmber
   pub start_lost : HasNumberOf part.Group d key.StartLost
   pub end_gain : HasNumberOf part.Group d key.EndGain
+  pub max_green : HasNumberOr 300 d key.MaxGreen 1 300
 
 pub record IsGroupElement (d : Data) : Type 0 where
   pub label : HasLabel d
@@ -80,3 +81,8 @@ pub record IsConflictElement (document d : Data) : Type 0 where
   pub b : HasReference document d key.B
   pub a_to_b : HasNumberOf part.Conflict d key.AToB
   pub b_to_a : HasNumberOf part.Conflict d key.BToA
+
+pub record IsLinkElement (document d : Data) : Type 0 where
+  pub leader : HasReference document d key.Leader
+  pub follower : HasReference document d key.Follower
+  pub after : HasNumberOf part.Link d key.After

@@ -15,15 +15,15 @@ use Rattle.junction_files.specs.declared.faults.Key.TheVariants as key
 -- each kind, part and key at its number
 abbrev pub all_kinds : List Kind
 all_kinds = kind.NotToml ∷ kind.Version ∷ kind.Shape ∷ kind.Count ∷ kind.Range ∷ kind.Name ∷ kind.Unknown ∷ kind.SelfConflict ∷ kind.Twice
-    ∷ kind.Lonely ∷ kind.ShortIntergreen ∷ kind.EndGain ∷ kind.NoEffective ∷ kind.NoFlow ∷ []
+    ∷ kind.Lonely ∷ kind.ShortIntergreen ∷ kind.EndGain ∷ kind.NoEffective ∷ kind.NoFlow ∷ kind.MaxGreen ∷ kind.SelfLink ∷ kind.LinkTwice ∷ []
 
 abbrev pub all_parts : List Part
-all_parts = part.Top ∷ part.Group ∷ part.Lane ∷ part.Conflict ∷ []
+all_parts = part.Top ∷ part.Group ∷ part.Lane ∷ part.Conflict ∷ part.Link ∷ []
 
 abbrev pub all_keys : List Key
-all_keys = key.Whole ∷ key.Version ∷ key.Name ∷ key.LeastCycle ∷ key.GreatestCycle ∷ key.Group ∷ key.Lane ∷ key.Conflict ∷ key.MinGreen
-    ∷ key.Amber ∷ key.RedAmber ∷ key.StartLost ∷ key.EndGain ∷ key.Arrival ∷ key.Saturation ∷ key.Limit ∷ key.A ∷ key.B ∷ key.AToB ∷ key.BToA
-    ∷ key.Other ∷ []
+all_keys = key.Whole ∷ key.Version ∷ key.Name ∷ key.LeastCycle ∷ key.GreatestCycle ∷ key.Group ∷ key.Lane ∷ key.Conflict ∷ key.Link
+    ∷ key.MinGreen ∷ key.Amber ∷ key.RedAmber ∷ key.StartLost ∷ key.EndGain ∷ key.MaxGreen ∷ key.Arrival ∷ key.Saturation ∷ key.Limit
+    ∷ key.A ∷ key.B ∷ key.AToB ∷ key.BToA ∷ key.Leader ∷ key.Follower ∷ key.After ∷ key.Other ∷ []
 
 -- the fault of a kind at a spot
 abbrev pub fault_at : Kind → Spot → Fault

@@ -23,12 +23,16 @@ kind_word kind.ShortIntergreen = codes "short_intergreen"
 kind_word kind.EndGain = codes "end_gain"
 kind_word kind.NoEffective = codes "no_effective"
 kind_word kind.NoFlow = codes "no_flow"
+kind_word kind.MaxGreen = codes "max_green"
+kind_word kind.SelfLink = codes "self_link"
+kind_word kind.LinkTwice = codes "link_twice"
 
 abbrev pub part_word : Part → List ℕ
 part_word part.Top = codes "top"
 part_word part.Group = codes "group"
 part_word part.Lane = codes "lane"
 part_word part.Conflict = codes "conflict"
+part_word part.Link = codes "link"
 
 -- the number and the word of a kind
 abbrev pub kind_text : Kind → List ℕ

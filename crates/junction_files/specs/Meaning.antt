@@ -5,11 +5,12 @@ use Rattle.std.specs.Str.{bytes_eq}
 use Rattle.toml.specs.Data.{Data}
 use Rattle.sig_base.specs.declared.group_times.GroupTimes.{GroupTimes}
 use Rattle.conflict_matrix.specs.declared.entry.Entry.{Entry}
+use Rattle.conflict_matrix.specs.declared.link.Link.{Link}
 use Rattle.conflict_matrix.specs.Entries.{IsTableOf}
 use Rattle.flow_model.specs.declared.lane.Lane.{Lane}
 use Rattle.junction_model.specs.declared.group.Group.{Group}
 use Rattle.junction_model.specs.Junction.{JunctionView}
-use Rattle.junction_files.specs.Document.{text_in, whole_in, groups_in, lanes_in, conflicts_in}
+use Rattle.junction_files.specs.Document.{text_in, whole_in, groups_in, lanes_in, conflicts_in, links_in}
 use Rattle.junction_files.specs.declared.faults.Key.{Key}
 use Rattle.junction_files.specs.declared.faults.Key.TheVariants as key
 
@@ -27,6 +28,7 @@ number_of d k = number_or 0 d k
 abbrev pub text_of : Data → Key → List ℕ
 text_of d k = unwrap_or (text_in d k) []
 
+-- a maximum green is 300 where it isn't given
 abbrev pub times_of : Data → GroupTimes
 times_of d = record {
   min_green = number_of d key.MinGreen;
@@ -34,7 +36,7 @@ times_of d = record {
   red_amber = number_of d key.RedAmber;
   start_lost = number_of d key.StartLost;
   end_gain = number_of d key.EndGain;
-  max_green = 300;
+  max_green = number_or 300 d key.MaxGreen;
 }
 
 abbrev pub group_of : Data → Group
@@ -69,7 +71,18 @@ entry_of document d = record {
 abbrev pub entries_in : Data → List Entry
 entries_in document = map (entry_of document) (conflicts_in document)
 
--- groups and lanes keep the order of the file; of the conflicts only their table stays
+abbrev pub link_of : Data → Data → Link
+link_of document d = record {
+  leader = group_number document (text_of d key.Leader);
+  follower = group_number document (text_of d key.Follower);
+  after = number_of d key.After;
+}
+
+-- no links where the list is missing
+abbrev pub links_of : Data → List Link
+links_of document = map (link_of document) (links_in document)
+
+-- groups, lanes and links keep the order of the file; of the conflicts only their table stays
 pub record IsJunctionOf (document : Data) (junction : JunctionView) : Type 0 where
   pub title : text_in document key.Name ≡ Some junction.title
   pub least_cycle : whole_in document key.LeastCycle ≡ Some (pos junction.least_cycle)
@@ -77,4 +90,4 @@ pub record IsJunctionOf (document : Data) (junction : JunctionView) : Type 0 whe
   pub groups : junction.groups ≡ map group_of (groups_in document)
   pub lanes : junction.lanes ≡ map (lane_of document) (lanes_in document)
   pub conflicts : IsTableOf (length junction.groups) (entries_in document) junction.conflicts
-  pub links : junction.conflicts.links ≡ []
+  pub links : junction.conflicts.links ≡ links_of document

@@ -2,10 +2,17 @@ ghost use Rattle.std.specs.Prelude.{◌≡◌, map, option_map, ◌-◌, take};
 ghost use Rattle.std.specs.Option.{option_copied};
 ghost use Rattle.toml.specs.View.{view, array_view, table_view};
 ghost use Rattle.toml.specs.Data.{get_member};
-ghost use Rattle.junction_files.specs.Document.{word_of, value_in, text_in, whole_in, array_in, list_in, elements_in};
+ghost use Rattle.junction_files.specs.Document.{word_of, numbered_version, version_of, value_in, text_in, whole_in, array_in, list_in, elements_in};
 
 use crate::faults::Key;
 use toml::{Table, Value};
+
+/// The version of a file, which says which keys its tables may hold.
+#[derive(Clone, Copy, Debug, PartialEq, Eq)]
+pub enum Version {
+    First,
+    Second,
+}
 
 /// A key as it is written in a file.
 pub fn word(key: Key) -> &'static str
@@ -21,11 +28,13 @@ pub fn word(key: Key) -> &'static str
         Key::Group => "group",
         Key::Lane => "lane",
         Key::Conflict => "conflict",
+        Key::Link => "link",
         Key::MinGreen => "min_green",
         Key::Amber => "amber",
         Key::RedAmber => "red_amber",
         Key::StartLost => "start_lost",
         Key::EndGain => "end_gain",
+        Key::MaxGreen => "max_green",
         Key::Arrival => "arrival",
         Key::Saturation => "saturation",
         Key::Limit => "limit",
@@ -33,6 +42,9 @@ pub fn word(key: Key) -> &'static str
         Key::B => "b",
         Key::AToB => "a_to_b",
         Key::BToA => "b_to_a",
+        Key::Leader => "leader",
+        Key::Follower => "follower",
+        Key::After => "after",
     }
 }
 
@@ -68,6 +80,26 @@ pub fn whole(element: &Value, key: Key) -> Option<i64>
     match value(element, key) {
         Some(value) => value.as_integer(),
         None => None,
+    }
+}
+
+fn numbered_version(number: i64) -> Version
+    ensures { result ≡ numbered_version number }
+{
+    if number == 2 {
+        Version::Second
+    } else {
+        Version::First
+    }
+}
+
+/// The version of a document: the second where it gives the number 2, and else the first.
+pub fn version_of(document: &Value) -> Version
+    ensures { result ≡ version_of (view document.now) }
+{
+    match whole(document, Key::Version) {
+        Some(number) => numbered_version(number),
+        None => Version::First,
     }
 }
 

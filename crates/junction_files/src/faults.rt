@@ -10,13 +10,16 @@ ghost use Rattle.junction_files.specs.declared.faults.JunctionFault.TheVariants.
 mod count;
 mod end_gain;
 mod first;
+mod link_twice;
 mod lonely;
+mod max_green;
 mod name;
 mod no_effective;
 mod no_flow;
 mod range;
 mod rule;
 mod self_conflict;
+mod self_link;
 mod shape;
 mod short_intergreen;
 mod spot;
@@ -34,7 +37,7 @@ pub use spot::Spot;
 pub enum Kind {
     /// The bytes are no TOML document.
     NotToml,
-    /// The version is missing or isn't the whole number 1.
+    /// The version is missing or is neither the whole number 1 nor 2.
     Version,
     /// A required key is missing, a value has another kind than its key asks for, an element isn't a
     /// table, or a table holds a key that isn't listed.
@@ -45,7 +48,7 @@ pub enum Kind {
     Range,
     /// A name breaks its rule or equals an earlier one of the same part.
     Name,
-    /// A lane's group, or a group of a conflict, is the name of no group.
+    /// A lane's group, or a group of a conflict or of a link, is the name of no group.
     Unknown,
     /// A conflict's two groups are one.
     SelfConflict,
@@ -62,6 +65,12 @@ pub enum Kind {
     NoEffective,
     /// Nothing arrives on any lane.
     NoFlow,
+    /// A group's maximum green is below its minimum.
+    MaxGreen,
+    /// A link's leader is its follower.
+    SelfLink,
+    /// A link's two groups stand in an earlier link, in either sense.
+    LinkTwice,
 }
 
 /// The part of a file in which a fault stands.
@@ -71,6 +80,7 @@ pub enum Part {
     Group,
     Lane,
     Conflict,
+    Link,
 }
 
 /// A key of a file, or the whole element, or another key that isn't listed.
@@ -85,11 +95,13 @@ pub enum Key {
     Group,
     Lane,
     Conflict,
+    Link,
     MinGreen,
     Amber,
     RedAmber,
     StartLost,
     EndGain,
+    MaxGreen,
     Arrival,
     Saturation,
     Limit,
@@ -97,10 +109,13 @@ pub enum Key {
     B,
     AToB,
     BToA,
+    Leader,
+    Follower,
+    After,
 }
 
-/// Where a fault stands. The index is 0 for the top and counts from 1 in the lists of groups, lanes
-/// and conflicts; it stands still at 4294967295.
+/// Where a fault stands. The index is 0 for the top and counts from 1 in the lists of groups, lanes,
+/// conflicts and links; it stands still at 4294967295.
 #[derive(Clone, Copy, Debug, PartialEq, Eq)]
 pub struct Place {
     pub part: Part,

@@ -6,6 +6,7 @@ mod line;
 mod member;
 mod printer;
 mod tables;
+mod version;
 
 pub use line::fault_line;
 pub use printer::print;

@@ -1,6 +1,7 @@
 -- The rules of a junction.
-use Rattle.std.specs.Prelude.{ℕ, List, [], length, ◌≡◌, ◌≢◌, ◌+◌, ◌<◌, ◌≤◌, All, Any, AllPairs, IfSome, slice_get}
+use Rattle.std.specs.Prelude.{ℕ, List, length, ◌≡◌, ◌≢◌, ◌+◌, ◌<◌, ◌≤◌, All, Any, AllPairs, IfSome, slice_get}
 use Rattle.sig_base.specs.First.{SomeBelow}
+use Rattle.sig_base.specs.Text.{IsLabel, IsTitle}
 use Rattle.sig_base.specs.Times.{AreTimes}
 use Rattle.conflict_matrix.specs.Matrix.{Matrix, IsMatrix, AreConflicting, intergreen_of}
 use Rattle.flow_model.specs.Lane.{AreFlows}
@@ -14,14 +15,14 @@ pub record AreCycles (least greatest : ℕ) : Type 0 where
   pub ordered : least ≤ greatest
   pub longest : greatest ≤ 300
 
--- times in their ranges, an end gain within the amber, some effective green at the minimum one, and a maximum that isn't
--- below it. Until junction files can give maxima, each is the longest green; junction_files alone rests on that.
+-- a label, times in their ranges, an end gain within the amber, some effective green at the minimum one, and a maximum
+-- that isn't below it
 pub record IsGroup (group : Group) : Type 0 where
+  pub label : IsLabel group.label
   pub times : AreTimes group.times
   pub gained_in_amber : group.times.end_gain ≤ group.times.amber
   pub some_effective : group.times.start_lost < group.times.min_green + group.times.end_gain
   pub not_below : group.times.min_green ≤ group.times.max_green
-  pub longest : group.times.max_green ≡ 300
 
 pub record AreGroups (groups : List Group) : Type 0 where
   pub several : 2 ≤ length groups
@@ -29,8 +30,9 @@ pub record AreGroups (groups : List Group) : Type 0 where
   pub each : All IsGroup groups
   pub distinct : AllPairs (λ (a b : Group). a.label ≢ b.label) groups
 
--- flows in their ranges, on one of the groups
+-- a label, and flows in their ranges, on one of the groups
 pub record IsLane (groups : ℕ) (lane : Lane) : Type 0 where
+  pub label : IsLabel lane.label
   pub served : lane.group < groups
   pub flows : AreFlows lane
 
@@ -65,16 +67,15 @@ AreLongEnoughFrom groups conflicts i = (j : ℕ) → j < length groups → IsPai
 abbrev pub AreLongEnough : List Group → Matrix → Type 0
 AreLongEnough groups conflicts = (i : ℕ) → i < length groups → AreLongEnoughFrom groups conflicts i
 
--- each group conflicts with another, and each intergreen is long enough. Until junction files can give links, there are
--- none; junction_files alone rests on that.
+-- a table of conflicts and links, where each group conflicts with another and each intergreen is long enough
 pub record AreConflicts (groups : List Group) (conflicts : Matrix) : Type 0 where
   pub table : IsMatrix conflicts
   pub same_groups : conflicts.groups ≡ length groups
-  pub unlinked : conflicts.links ≡ []
   pub partnered : ArePartnered conflicts
   pub long_enough : AreLongEnough groups conflicts
 
 pub record IsJunction (junction : JunctionView) : Type 0 where
+  pub title : IsTitle junction.title
   pub cycles : AreCycles junction.least_cycle junction.greatest_cycle
   pub groups : AreGroups junction.groups
   pub lanes : AreLanes (length junction.groups) junction.lanes

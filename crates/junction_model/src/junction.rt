@@ -15,7 +15,7 @@ use std::marker::Model;
 /// A junction that keeps all the rules of a junction file.
 ///
 /// Contracts see it as a record of its title's bytes, its least and greatest cycle in seconds, its
-/// list of groups, its list of lanes and the table of its conflicts.
+/// list of groups, its list of lanes and the table of its conflicts and links.
 #[derive(Debug, Drop)]
 pub struct Junction {
     title: Title,
@@ -33,9 +33,11 @@ impl Model for Junction {
 
     ghost Value = { JunctionView };
 
-    ghost view = { λ j. junction_from j.title j.least_cycle j.greatest_cycle j.groups.items j.lanes.items (matrix_of j.conflicts) };
+    ghost view = { λ j. junction_from j.title j.least_cycle j.greatest_cycle
+        j.groups.items j.lanes.items (matrix_of j.conflicts) };
 
-    ghost invariant = { λ j. IsJunction (junction_from j.title j.least_cycle j.greatest_cycle j.groups.items j.lanes.items (matrix_of j.conflicts)) };
+    ghost invariant = { λ j. IsJunction (junction_from j.title j.least_cycle j.greatest_cycle
+        j.groups.items j.lanes.items (matrix_of j.conflicts)) };
 }
 
 impl Junction {
@@ -53,6 +55,7 @@ impl Junction {
             IsJunction (junction_from title.now least_cycle greatest_cycle
             groups.now lanes.now (matrix_of conflicts.now)) }
     {
+        let _ = title.bytes();
         are_cycles(least_cycle, greatest_cycle)
             && are_groups(groups)
             && are_lanes(groups.len(), lanes)
@@ -125,7 +128,7 @@ impl Junction {
         &self.lanes
     }
 
-    /// The table of the groups' conflicts, with their intergreens in seconds.
+    /// The table of the groups' conflicts, with their intergreens in seconds, and the start links.
     pub fn conflicts(&self) -> &Conflicts
         ensures value { matrix_of result.now ≡ self.now.conflicts }
     {

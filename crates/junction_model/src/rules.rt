@@ -1,4 +1,4 @@
-ghost use Rattle.std.specs.Prelude.{◌≡◌, ◌↔◌, ◌<◌, length, Some, IsTrue};
+ghost use Rattle.std.specs.Prelude.{◌≡◌, ◌↔◌, ◌<◌, ◌≤◌, length, IsTrue, Any};
 ghost use Rattle.sig_base.specs.Times.{AreTimes};
 ghost use Rattle.conflict_matrix.specs.Conflicts.{matrix_of};
 ghost use Rattle.flow_model.specs.Lane.{AreFlows};
@@ -33,12 +33,12 @@ fn are_times(times: &GroupTimes) -> bool
 fn is_group(group: &Group) -> bool
     ensures { IsTrue result ↔ IsGroup group.now }
 {
+    let _ = group.label.bytes();
     let times = &group.times;
     are_times(times)
         && times.end_gain <= times.amber
         && u64::from(times.start_lost) < u64::from(times.min_green) + u64::from(times.end_gain)
         && times.min_green <= times.max_green
-        && times.max_green == LONGEST_GREEN
 }
 
 pub fn are_groups(groups: &[Group]) -> bool
@@ -63,7 +63,14 @@ fn are_flows(lane: &Lane) -> bool
 fn is_lane(groups: usize, lane: &Lane) -> bool
     ensures { IsTrue result ↔ IsLane groups lane.now }
 {
+    let _ = lane.label.bytes();
     (lane.group as usize) < groups && are_flows(lane)
+}
+
+fn has_arrival(lanes: &[Lane]) -> bool
+    ensures { IsTrue result ↔ Any (λ (lane : Lane). 1 ≤ lane.arrival) lanes.now }
+{
+    lanes.iter().any(|lane| lane.arrival >= 1)
 }
 
 pub fn are_lanes(groups: usize, lanes: &[Lane]) -> bool
@@ -73,7 +80,7 @@ pub fn are_lanes(groups: usize, lanes: &[Lane]) -> bool
         && lanes.len() <= MOST_LANES
         && lanes.iter().all(|lane| is_lane(groups, lane))
         && are_distinct(lanes)
-        && lanes.iter().any(|lane| lane.arrival >= 1)
+        && has_arrival(lanes)
 }
 
 fn has_partner(conflicts: &Conflicts, i: usize) -> bool
@@ -146,7 +153,6 @@ pub fn are_conflicts(groups: &[Group], conflicts: &Conflicts) -> bool
     ensures { IsTrue result ↔ AreConflicts groups.now (matrix_of conflicts.now) }
 {
     conflicts.groups() == groups.len()
-        && conflicts.links().is_empty()
         && each_has_partner(conflicts)
         && are_long_enough(groups, conflicts)
 }

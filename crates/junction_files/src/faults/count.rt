@@ -5,7 +5,7 @@ ghost use Rattle.junction_files.specs.Faults.{CountFault};
 
 use crate::document::list;
 use crate::faults::{Key, Part};
-use conflict_matrix::MOST_PAIRS;
+use conflict_matrix::{MOST_LINKS, MOST_PAIRS};
 use sig_base::{MOST_GROUPS, MOST_LANES};
 use toml::Value;
 
@@ -17,6 +17,7 @@ fn count_of(key: Key) -> Option<(usize, usize)>
         Key::Group => Some((2, MOST_GROUPS)),
         Key::Lane => Some((1, MOST_LANES)),
         Key::Conflict => Some((1, MOST_PAIRS)),
+        Key::Link => Some((0, MOST_LINKS)),
         _ => None,
     }
 }

@@ -9,7 +9,7 @@ use crate::faults::spot::Spot;
 use crate::faults::{Key, Kind, Part};
 use toml::Value;
 
-fn kinds() -> [Kind; 14]
+fn kinds() -> [Kind; 17]
     ensures { result ≡ all_kinds }
 {
     [
@@ -27,16 +27,25 @@ fn kinds() -> [Kind; 14]
         Kind::EndGain,
         Kind::NoEffective,
         Kind::NoFlow,
+        Kind::MaxGreen,
+        Kind::SelfLink,
+        Kind::LinkTwice,
     ]
 }
 
-fn parts() -> [Part; 4]
+fn parts() -> [Part; 5]
     ensures { result ≡ all_parts }
 {
-    [Part::Top, Part::Group, Part::Lane, Part::Conflict]
+    [
+        Part::Top,
+        Part::Group,
+        Part::Lane,
+        Part::Conflict,
+        Part::Link,
+    ]
 }
 
-fn keys() -> [Key; 21]
+fn keys() -> [Key; 26]
     ensures { result ≡ all_keys }
 {
     [
@@ -48,11 +57,13 @@ fn keys() -> [Key; 21]
         Key::Group,
         Key::Lane,
         Key::Conflict,
+        Key::Link,
         Key::MinGreen,
         Key::Amber,
         Key::RedAmber,
         Key::StartLost,
         Key::EndGain,
+        Key::MaxGreen,
         Key::Arrival,
         Key::Saturation,
         Key::Limit,
@@ -60,6 +71,9 @@ fn keys() -> [Key; 21]
         Key::B,
         Key::AToB,
         Key::BToA,
+        Key::Leader,
+        Key::Follower,
+        Key::After,
         Key::Other,
     ]
 }
@@ -124,6 +138,7 @@ fn first_in(document: &Value, kind: Kind, part: Part) -> Option<Spot>
         Part::Group => first_in_list(document, kind, Part::Group, Key::Group),
         Part::Lane => first_in_list(document, kind, Part::Lane, Key::Lane),
         Part::Conflict => first_in_list(document, kind, Part::Conflict, Key::Conflict),
+        Part::Link => first_in_list(document, kind, Part::Link, Key::Link),
     }
 }
 

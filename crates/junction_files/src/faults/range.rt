@@ -7,8 +7,8 @@ use crate::document::whole;
 use crate::faults::{Key, Part};
 use flow_model::{MOST_FLOW, WHOLE};
 use sig_base::{
-    LONGEST_AMBER, LONGEST_CYCLE, LONGEST_INTERGREEN, LONGEST_MIN_GREEN, LONGEST_RED_AMBER,
-    LONGEST_START_LOST,
+    LONGEST_AMBER, LONGEST_CYCLE, LONGEST_GREEN, LONGEST_INTERGREEN, LONGEST_MIN_GREEN,
+    LONGEST_RED_AMBER, LONGEST_START_LOST,
 };
 use toml::Value;
 
@@ -35,10 +35,12 @@ fn range_of(document: &Value, part: Part, key: Key) -> Option<(i64, i64)>
         (Part::Group, Key::RedAmber) => range(0, LONGEST_RED_AMBER),
         (Part::Group, Key::StartLost) => range(0, LONGEST_START_LOST),
         (Part::Group, Key::EndGain) => range(0, LONGEST_AMBER),
+        (Part::Group, Key::MaxGreen) => range(1, LONGEST_GREEN),
         (Part::Lane, Key::Arrival) => range(0, MOST_FLOW),
         (Part::Lane, Key::Saturation) => range(1, MOST_FLOW),
         (Part::Lane, Key::Limit) => range(1, WHOLE),
         (Part::Conflict, Key::AToB | Key::BToA) => range(0, LONGEST_INTERGREEN),
+        (Part::Link, Key::After) => range(0, LONGEST_CYCLE - 1),
         _ => None,
     }
 }

@@ -17,14 +17,14 @@ fn is_unknown(document: &Value, element: &Value, key: Key) -> bool
     }
 }
 
-/// A lane's group, or a group of a conflict, is the name of no group.
+/// A lane's group, or a group of a conflict or of a link, is the name of no group.
 pub fn is_unknown_fault(document: &Value, part: Part, element: &Value, key: Key) -> bool
     ensures { IsTrue result ↔ UnknownFault (view document.now) part (view element.now) key }
 {
     match (part, key) {
-        (Part::Lane, Key::Group) | (Part::Conflict, Key::A | Key::B) => {
-            is_unknown(document, element, key)
-        }
+        (Part::Lane, Key::Group) => is_unknown(document, element, key),
+        (Part::Conflict, Key::A | Key::B) => is_unknown(document, element, key),
+        (Part::Link, Key::Leader | Key::Follower) => is_unknown(document, element, key),
         _ => false,
     }
 }

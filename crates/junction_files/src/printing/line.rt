@@ -25,6 +25,9 @@ fn kind_number(kind: Kind) -> u32
         Kind::EndGain => 12,
         Kind::NoEffective => 13,
         Kind::NoFlow => 14,
+        Kind::MaxGreen => 15,
+        Kind::SelfLink => 16,
+        Kind::LinkTwice => 17,
     }
 }
 
@@ -46,6 +49,9 @@ fn kind_word(kind: Kind) -> &'static str
         Kind::EndGain => "end_gain",
         Kind::NoEffective => "no_effective",
         Kind::NoFlow => "no_flow",
+        Kind::MaxGreen => "max_green",
+        Kind::SelfLink => "self_link",
+        Kind::LinkTwice => "link_twice",
     }
 }
 
@@ -57,6 +63,7 @@ fn part_word(part: Part) -> &'static str
         Part::Group => "group",
         Part::Lane => "lane",
         Part::Conflict => "conflict",
+        Part::Link => "link",
     }
 }
 

@@ -1,6 +1,6 @@
 ghost use Rattle.std.specs.Prelude.{◌≡◌, map, IsUtf8, OnOk};
 ghost use Rattle.toml.specs.View.{view, table_view};
-ghost use Rattle.junction_files.specs.Printing.{with_value, with_text, with_number, with_tables};
+ghost use Rattle.junction_files.specs.Printing.{with_value, with_text, with_number, with_tables, with_some_tables};
 
 use crate::document::word;
 use crate::faults::Key;
@@ -44,4 +44,20 @@ pub fn put_tables(
         ≡ with_tables key (map view tables.items) (table_view table.old)) }
 {
     put(alloc, table, key, Value::Array(tables))
+}
+
+/// Puts a list of tables at a key of a table, unless it is empty.
+pub fn put_some_tables(
+    alloc: Global,
+    table: &mut Table,
+    key: Key,
+    tables: Vec<Value>,
+) -> Result<(), NoMemory>
+    ensures { OnOk result (table_view table.new
+        ≡ with_some_tables key (map view tables.items) (table_view table.old)) }
+{
+    if tables.is_empty() {
+        return Ok(());
+    }
+    put_tables(alloc, table, key, tables)
 }

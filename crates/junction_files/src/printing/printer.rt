@@ -1,14 +1,14 @@
-ghost use Rattle.std.specs.Prelude.{◌≡◌, ◌≤◌, length, IfOk};
+ghost use Rattle.std.specs.Prelude.{◌≡◌, IfOk};
 ghost use Rattle.toml.specs.View.{table_view};
-ghost use Rattle.sig_base.specs.Text.{IsTitle};
-ghost use Rattle.conflict_matrix.specs.Pairs.{pairs_of};
 ghost use Rattle.junction_model.specs.Rules.{IsJunction};
-ghost use Rattle.junction_files.specs.Printing.{head_members, file_members, HasTexts};
+ghost use Rattle.junction_files.specs.Printing.{head_members, list_members, file_members, printed_version};
 ghost use Rattle.junction_files.specs.Reads.{IsDocument, Spells};
 
+use crate::document::Version;
 use crate::faults::Key;
-use crate::printing::member::{put_number, put_tables, put_text};
-use crate::printing::tables::{conflict_tables, group_tables, lane_tables};
+use crate::printing::member::{put_number, put_some_tables, put_tables, put_text};
+use crate::printing::tables::{conflict_tables, group_tables, lane_tables, link_tables};
+use crate::printing::version::{printed_version, version_number};
 use junction_model::Junction;
 use sig_base::NoMemory;
 use std::alloc::Global;
@@ -16,13 +16,11 @@ use toml::Table;
 use toml::ser::Error;
 
 /// The document of a junction without its lists.
-fn head_table(alloc: Global, junction: &Junction) -> Result<Table, NoMemory>
-    ensures value { IfOk result (λ t. table_view t ≡ head_members junction.now) }
-    ensures title { IfOk result (λ _. IsTitle junction.now.title) }
+fn head_table(alloc: Global, version: Version, junction: &Junction) -> Result<Table, NoMemory>
+    ensures { IfOk result (λ t. table_view t ≡ head_members version junction.now) }
 {
-    junction.rules();
     let mut table = Table::new(alloc);
-    put_number(alloc, &mut table, Key::Version, 1)?;
+    put_number(alloc, &mut table, Key::Version, version_number(version))?;
     put_text(alloc, &mut table, Key::Name, junction.title().bytes())?;
     put_number(alloc, &mut table, Key::LeastCycle, junction.least_cycle())?;
     put_number(
@@ -34,17 +32,19 @@ fn head_table(alloc: Global, junction: &Junction) -> Result<Table, NoMemory>
     Ok(table)
 }
 
-/// The document of a junction.
-fn file_table(alloc: Global, junction: &Junction) -> Result<Table, NoMemory>
-    ensures value { IfOk result (λ t. table_view t ≡ file_members junction.now) }
-    ensures texts { IfOk result (λ _. HasTexts junction.now) }
-    ensures few { IfOk result (λ _. length (pairs_of junction.now.conflicts) ≤ 120) }
-    ensures rules { IsJunction junction.now }
+/// The document of a junction without its links.
+fn list_table(alloc: Global, version: Version, junction: &Junction) -> Result<Table, NoMemory>
+    ensures { IfOk result (λ t. table_view t ≡ list_members version junction.now) }
 {
     junction.rules();
     let groups = junction.groups();
-    let mut table = head_table(alloc, junction)?;
-    put_tables(alloc, &mut table, Key::Group, group_tables(alloc, groups)?)?;
+    let mut table = head_table(alloc, version, junction)?;
+    put_tables(
+        alloc,
+        &mut table,
+        Key::Group,
+        group_tables(alloc, version, groups)?,
+    )?;
     put_tables(
         alloc,
         &mut table,
@@ -56,8 +56,22 @@ fn file_table(alloc: Global, junction: &Junction) -> Result<Table, NoMemory>
     Ok(table)
 }
 
-/// The text of a junction's file, a TOML document. It gives every lane its limit, and the conflicts
-/// by the number of their pair with the lower group as `a`; `read` gives the same junction back.
+/// The document of a junction.
+fn file_table(alloc: Global, junction: &Junction) -> Result<Table, NoMemory>
+    ensures value { IfOk result (λ t. table_view t ≡ file_members junction.now) }
+    ensures rules { IsJunction junction.now }
+{
+    junction.rules();
+    let mut table = list_table(alloc, printed_version(junction), junction)?;
+    let links = link_tables(alloc, junction.groups(), junction.conflicts().links())?;
+    put_some_tables(alloc, &mut table, Key::Link, links)?;
+    Ok(table)
+}
+
+/// The text of a junction's file, a TOML document: of the second version where some maximum green is
+/// below the longest one or there is a link, and else of the first. It gives every lane its limit, in the
+/// second version every group its maximum, and the conflicts by the number of their pair with the lower
+/// group as `a`; `read` gives the same junction back.
 pub fn print(alloc: Global, junction: &Junction) -> Result<Vec<u8>, NoMemory>
     ensures junction { IfOk result (λ text. Spells text.items junction.now) }
     ensures document { IfOk result (λ text. IsDocument text.items (file_members junction.now)) }

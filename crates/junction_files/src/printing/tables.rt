@@ -1,13 +1,14 @@
-ghost use Rattle.std.specs.Prelude.{◌≡◌, ◌<◌, ◌≤◌, map, length, All, IfOk, OnOk};
+ghost use Rattle.std.specs.Prelude.{◌≡◌, ◌<◌, map, length, All, IfOk, OnOk};
 ghost use Rattle.toml.specs.View.{view, table_view};
-ghost use Rattle.sig_base.specs.Text.{IsLabel};
-ghost use Rattle.conflict_matrix.specs.Conflicts.{matrix_of, pairs_of};
+ghost use Rattle.conflict_matrix.specs.Conflicts.{matrix_of};
+ghost use Rattle.conflict_matrix.specs.Links.{IsWithin};
 ghost use Rattle.junction_model.specs.Rules.{IsLane};
-ghost use Rattle.junction_files.specs.Printing.{tables, with_text, seconds_between, group_members, lane_members, conflict_members, conflict_tables};
+ghost use Rattle.junction_files.specs.Printing.{tables, with_text, seconds_between, first_group_members, group_members, lane_members, conflict_members, conflict_tables, link_members};
 
+use crate::document::Version;
 use crate::faults::Key;
 use crate::printing::member::{put_number, put_text};
-use conflict_matrix::Conflicts;
+use conflict_matrix::{Conflicts, Link};
 use flow_model::Lane;
 use junction_model::Group;
 use sig_base::{Label, NoMemory};
@@ -15,16 +16,15 @@ use std::alloc::Global;
 use toml::{Table, Value};
 
 fn put_label(alloc: Global, table: &mut Table, key: Key, label: &Label) -> Result<(), NoMemory>
-    ensures value { OnOk result (table_view table.new
+    ensures { OnOk result (table_view table.new
         ≡ with_text key label.now (table_view table.old)) }
-    ensures label { IsLabel label.now }
 {
     put_text(alloc, table, key, label.bytes())
 }
 
-fn group_table(alloc: Global, group: &Group) -> Result<Table, NoMemory>
-    ensures value { IfOk result (λ t. table_view t ≡ group_members group.now) }
-    ensures label { IsLabel group.now.label }
+/// A group as a table of the first version.
+fn first_group_table(alloc: Global, group: &Group) -> Result<Table, NoMemory>
+    ensures { IfOk result (λ t. table_view t ≡ first_group_members group.now) }
 {
     let times = group.times;
     let mut table = Table::new(alloc);
@@ -37,15 +37,28 @@ fn group_table(alloc: Global, group: &Group) -> Result<Table, NoMemory>
     Ok(table)
 }
 
+fn group_table(alloc: Global, version: Version, group: &Group) -> Result<Table, NoMemory>
+    ensures { IfOk result (λ t. table_view t ≡ group_members version group.now) }
+{
+    let mut table = first_group_table(alloc, group)?;
+    if version == Version::Second {
+        put_number(alloc, &mut table, Key::MaxGreen, group.times.max_green)?;
+    }
+    Ok(table)
+}
+
 /// The groups as tables of a document.
-pub fn group_tables(alloc: Global, groups: &[Group]) -> Result<Vec<Value>, NoMemory>
-    ensures values { IfOk result (λ values.
-        map view values.items ≡ tables group_members groups.now) }
-    ensures labels { IfOk result (λ _. All (λ (group : Group). IsLabel group.label) groups.now) }
+pub fn group_tables(
+    alloc: Global,
+    version: Version,
+    groups: &[Group],
+) -> Result<Vec<Value>, NoMemory>
+    ensures { IfOk result (λ values.
+        map view values.items ≡ tables (group_members version) groups.now) }
 {
     let mut values = Vec::new(alloc);
     for group in groups {
-        let table = group_table(alloc, group)?;
+        let table = group_table(alloc, version, group)?;
         values.push(Value::Table(table))?;
     }
     Ok(values)
@@ -53,8 +66,7 @@ pub fn group_tables(alloc: Global, groups: &[Group]) -> Result<Vec<Value>, NoMem
 
 fn lane_table(alloc: Global, groups: &[Group], lane: &Lane) -> Result<Table, NoMemory>
     requires { lane.now.group < length groups.now }
-    ensures value { IfOk result (λ t. table_view t ≡ lane_members groups.now lane.now) }
-    ensures label { IsLabel lane.now.label }
+    ensures { IfOk result (λ t. table_view t ≡ lane_members groups.now lane.now) }
 {
     let mut table = Table::new(alloc);
     put_label(alloc, &mut table, Key::Name, &lane.label)?;
@@ -69,9 +81,8 @@ fn lane_table(alloc: Global, groups: &[Group], lane: &Lane) -> Result<Table, NoM
 /// The lanes of these groups as tables of a document.
 pub fn lane_tables(alloc: Global, groups: &[Group], lanes: &[Lane]) -> Result<Vec<Value>, NoMemory>
     requires { All (IsLane (length groups.now)) lanes.now }
-    ensures values { IfOk result (λ values.
+    ensures { IfOk result (λ values.
         map view values.items ≡ tables (lane_members groups.now) lanes.now) }
-    ensures labels { IfOk result (λ _. All (λ (lane : Lane). IsLabel lane.label) lanes.now) }
 {
     let mut values = Vec::new(alloc);
     for lane in lanes {
@@ -117,13 +128,40 @@ pub fn conflict_tables(
     conflicts: &Conflicts,
 ) -> Result<Vec<Value>, NoMemory>
     requires { (matrix_of conflicts.now).groups ≡ length groups.now }
-    ensures values { IfOk result (λ values.
+    ensures { IfOk result (λ values.
         map view values.items ≡ conflict_tables groups.now (matrix_of conflicts.now)) }
-    ensures few { length (pairs_of (matrix_of conflicts.now)) ≤ 120 }
 {
     let mut values = Vec::new(alloc);
     for number in 0..conflicts.pair_count() {
         let table = conflict_table(alloc, groups, conflicts, conflicts.pair(number))?;
+        values.push(Value::Table(table))?;
+    }
+    Ok(values)
+}
+
+fn link_table(alloc: Global, groups: &[Group], link: &Link) -> Result<Table, NoMemory>
+    requires leader { link.now.leader < length groups.now }
+    requires follower { link.now.follower < length groups.now }
+    ensures { IfOk result (λ t. table_view t ≡ link_members groups.now link.now) }
+{
+    let leader = &groups[link.leader as usize];
+    let follower = &groups[link.follower as usize];
+    let mut table = Table::new(alloc);
+    put_label(alloc, &mut table, Key::Leader, &leader.label)?;
+    put_label(alloc, &mut table, Key::Follower, &follower.label)?;
+    put_number(alloc, &mut table, Key::After, link.after)?;
+    Ok(table)
+}
+
+/// The links of these groups as tables of a document.
+pub fn link_tables(alloc: Global, groups: &[Group], links: &[Link]) -> Result<Vec<Value>, NoMemory>
+    requires { All (IsWithin (length groups.now)) links.now }
+    ensures { IfOk result (λ values.
+        map view values.items ≡ tables (link_members groups.now) links.now) }
+{
+    let mut values = Vec::new(alloc);
+    for link in links {
+        let table = link_table(alloc, groups, link)?;
         values.push(Value::Table(table))?;
     }
     Ok(values)

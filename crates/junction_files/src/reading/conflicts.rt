@@ -1,7 +1,7 @@
-ghost use Rattle.std.specs.Prelude.{◌≡◌, map, IfOk, [], length};
+ghost use Rattle.std.specs.Prelude.{◌≡◌, map, IfOk, length};
 ghost use Rattle.toml.specs.View.{view};
 ghost use Rattle.junction_files.specs.Document.{groups_in};
-ghost use Rattle.junction_files.specs.Meaning.{group_of, entry_of, entries_in};
+ghost use Rattle.junction_files.specs.Meaning.{group_of, entry_of, entries_in, links_of};
 ghost use Rattle.junction_files.specs.Faultless.{IsFaultless, IsConflictElement};
 ghost use Rattle.conflict_matrix.specs.Conflicts.{matrix_of};
 ghost use Rattle.conflict_matrix.specs.Entries.{IsTableOf};
@@ -10,6 +10,7 @@ ghost use Rattle.junction_model.specs.Rules.{AreConflicts};
 use crate::document::elements;
 use crate::faults::Key;
 use crate::reading::fields::{number, reference};
+use crate::reading::links::linked;
 use conflict_matrix::{Conflicts, Entry};
 use junction_model::Group;
 use sig_base::{GroupTimes, NoMemory};
@@ -45,13 +46,12 @@ fn times_of_groups(alloc: Global, groups: &[Group]) -> Result<Vec<GroupTimes>, N
     Ok(groups.iter().map(|group| group.times).collect(alloc)?)
 }
 
-/// The table of the conflicts of a document without a fault, which has these groups.
-pub fn conflicts(alloc: Global, document: &Value, groups: &[Group]) -> Result<Conflicts, NoMemory>
+/// The table of the conflicts of a document without a fault, which has these groups, without links.
+fn unlinked(alloc: Global, document: &Value, groups: &[Group]) -> Result<Conflicts, NoMemory>
     requires faultless { IsFaultless (view document.now) }
     requires groups { groups.now ≡ map group_of (groups_in (view document.now)) }
     ensures table { IfOk result (λ c.
         IsTableOf (length groups.now) (entries_in (view document.now)) (matrix_of c)) }
-    ensures links { IfOk result (λ c. (matrix_of c).links ≡ []) }
     ensures rules { IfOk result (λ c. AreConflicts groups.now (matrix_of c)) }
 {
     let times = times_of_groups(alloc, groups)?;
@@ -60,4 +60,18 @@ pub fn conflicts(alloc: Global, document: &Value, groups: &[Group]) -> Result<Co
         Ok(conflicts) => Ok(conflicts),
         Err(_) => unreachable!(),
     }
+}
+
+/// The table of the conflicts and links of a document without a fault, which has these groups.
+pub fn conflicts(alloc: Global, document: &Value, groups: &[Group]) -> Result<Conflicts, NoMemory>
+    requires faultless { IsFaultless (view document.now) }
+    requires groups { groups.now ≡ map group_of (groups_in (view document.now)) }
+    ensures table { IfOk result (λ c.
+        IsTableOf (length groups.now) (entries_in (view document.now)) (matrix_of c)) }
+    ensures links { IfOk result (λ c. (matrix_of c).links ≡ links_of (view document.now)) }
+    ensures rules { IfOk result (λ c. AreConflicts groups.now (matrix_of c)) }
+{
+    let unlinked = unlinked(alloc, document, groups)?;
+    let linked = linked(alloc, document, unlinked)?;
+    Ok(linked)
 }

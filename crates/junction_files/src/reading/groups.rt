@@ -6,7 +6,7 @@ ghost use Rattle.junction_files.specs.Faultless.{IsFaultless, HasTimes, IsGroupE
 
 use crate::document::elements;
 use crate::faults::Key;
-use crate::reading::fields::{label, number};
+use crate::reading::fields::{label, number, number_or};
 use junction_model::Group;
 use sig_base::{GroupTimes, LONGEST_GREEN, NoMemory};
 use std::alloc::Global;
@@ -22,7 +22,7 @@ fn times(element: &Value) -> GroupTimes
         red_amber: number(element, Key::RedAmber),
         start_lost: number(element, Key::StartLost),
         end_gain: number(element, Key::EndGain),
-        max_green: LONGEST_GREEN,
+        max_green: number_or(element, Key::MaxGreen, LONGEST_GREEN),
     }
 }
 

@@ -16,7 +16,7 @@ returns-in-Ok-clause-document c =
 pub returns-in-Ok-clause-junction : goal.returns-in-Ok-clause-junction
 returns-in-Ok-clause-junction c =
     let file = c.in_ok-file.ensures in
-    spells _ _ (record { rules = file.rules; texts = file.texts; few_pairs = file.few }) (returns-in-Ok-clause-document c)
+    spells _ _ file.rules (returns-in-Ok-clause-document c)
 
 pub unreachable-requires : goal.unreachable-requires
 unreachable-requires c =

@@ -1,33 +1,15 @@
-use Rattle.std.proofs.Common.{List, [], ◌∷◌, map, ◌≡◌, refl, ◌∙◌}
-use Rattle.toml.specs.Data.{Data}
-use Rattle.sig_base.specs.declared.group_times.GroupTimes.{GroupTimes}
-use Rattle.junction_model.specs.declared.group.Group.{Group}
-use Rattle.junction_files.specs.Meaning.{times_of, group_of}
-use Rattle.junction_files.proofs.Conflicts.{are_entries, no_fault}
-use Rattle.junction_files.proofs.IsJunction.{are_conflicts}
+use Rattle.std.proofs.Common.{length, ap, ◌∙◌}
+use Rattle.std.proofs.lemmas.List.{length-map}
+use Rattle.junction_files.proofs.IsJunction.{linked_rules, linked_table}
 use Rattle.junction_files.proofs.reading.conflicts.conflicts.Goals as goal
 
-times_again : (ds : List Data) → map (λ (group : Group). group.times) (map group_of ds) ≡ map times_of ds
-times_again [] = refl
-times_again (d ∷ ds) = rw (times_again ds) refl
+pub linked-requires-clause-groups : goal.linked-requires-clause-groups
+linked-requires-clause-groups c =
+    c.in_ok-unlinked.ensures.rules.same_groups ∙ ap length c.requires.groups ∙ length-map _ _
 
-same_times : (times : List GroupTimes) (groups : List Group) (ds : List Data) → times ≡ map (λ (group : Group). group.times) groups → groups ≡ map group_of ds →
-    times ≡ map times_of ds
-same_times times groups ds e f = rw (e, f) (times_again ds)
-
-pub new-requires : goal.new-requires
-new-requires c =
-    let times = same_times _ _ _ (c.deref.ensures.value ∙ c.in_ok-times.ensures) c.requires.groups in
-    rw (times, c.deref-2.ensures.value, c.in_ok-entries.ensures) (are_entries _ c.requires.faultless)
-
-pub unreachable-requires : goal.unreachable-requires
-unreachable-requires c =
-    let times = same_times _ _ _ (c.deref.ensures.value ∙ c.in_ok-times.ensures) c.requires.groups in
-    no_fault _ c.requires.faultless _ (rw (times, c.deref-2.ensures.value, c.in_ok-entries.ensures) at c.in-Err.ensures.fault)
+pub returns-clause-table : goal.returns-clause-table
+returns-clause-table c = rw c.in_ok-linked.ensures (linked_table _ _ _ _ c.in_ok-unlinked.ensures.table)
 
 pub returns-clause-rules : goal.returns-clause-rules
 returns-clause-rules c =
-    let times = same_times _ _ _ (c.deref.ensures.value ∙ c.in_ok-times.ensures) c.requires.groups in
-    are_conflicts c.args.groups.now c.deref.result.now c.deref-2.result.now _ (c.deref.ensures.value ∙ c.in_ok-times.ensures)
-    (rw (times, c.deref-2.ensures.value, c.in_ok-entries.ensures) (are_entries _ c.requires.faultless))
-    c.in-Ok.ensures.faultless c.in-Ok.ensures.table c.in-Ok.ensures.unlinked c.in-Ok.conflicts.table
+    rw c.in_ok-linked.ensures (linked_rules _ _ _ c.in_ok-unlinked.ensures.rules (rw c.in_ok-linked.ensures at c.in_ok-linked.linked.table))
