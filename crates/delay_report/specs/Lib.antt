@@ -1,0 +1,4 @@
+pub mod WideRatio
+pub mod Delay
+pub mod Term
+pub mod DelayLaw

@@ -1,0 +1,2 @@
+mod StretchLaw
+mod RoomBelow

@@ -1,0 +1,6 @@
+mod Bits
+mod GreenSet
+mod Runs
+mod OneStage
+mod StageFrom
+mod StageBefore
