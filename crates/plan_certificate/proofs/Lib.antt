@@ -1,0 +1,11 @@
+pub mod Elements
+pub mod ListReading
+pub mod Walks
+pub mod Trees
+pub mod Plans
+pub mod Shapes
+pub mod Certificates
+pub mod NoFloat
+pub mod CertificateData
+pub mod ReadableText
+pub mod TextLaws

@@ -1,0 +1,10 @@
+pub mod Certificate
+pub mod Ranges
+pub mod Contents
+pub mod Version
+pub mod Text
+pub mod Shape
+pub mod Members
+pub mod Reads
+pub mod FaultWords
+pub mod Laws
