@@ -1,0 +1,12 @@
+pub mod Rules
+pub mod ClaimTrees
+pub mod Proves
+pub mod Basis
+pub mod TreeRules
+pub mod CertificateRules
+pub mod Verdict
+pub mod NodeFault
+pub mod Below
+pub mod Coming
+pub mod PlanRules
+pub mod Laws
