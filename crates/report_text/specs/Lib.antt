@@ -1,0 +1,10 @@
+pub mod Pieces
+pub mod Figures
+pub mod Head
+pub mod PlanLines
+pub mod LaneLine
+pub mod StageLines
+pub mod Report
+pub mod Verdict
+pub mod Refusal
+pub mod Summary
