@@ -5,9 +5,13 @@
 #![tactic(auto)]
 
 #[cfg(test)]
+mod of_certificate_checker;
+#[cfg(test)]
 mod of_conflict_matrix;
 #[cfg(test)]
 mod of_constraint_cycles;
+#[cfg(test)]
+mod of_delay_report;
 #[cfg(test)]
 mod of_difference_system;
 #[cfg(test)]
@@ -21,8 +25,16 @@ mod of_junction_program;
 #[cfg(test)]
 mod of_least_greens;
 #[cfg(test)]
+mod of_plan_certificate;
+#[cfg(test)]
 mod of_plan_model;
 #[cfg(test)]
+mod of_plan_stretch;
+#[cfg(test)]
+mod of_report_text;
+#[cfg(test)]
 mod of_sig_base;
+#[cfg(test)]
+mod of_stage_builder;
 #[cfg(test)]
 mod samples;

@@ -1,9 +1,12 @@
 mod documents;
 mod faults;
 mod hostile;
+mod links;
+mod maxima;
 mod printing;
 mod values;
 
+use crate::samples::texts::changed;
 use junction_files::{JunctionFault, fault_line, read};
 use std::alloc::Global;
 use std::process::Abort;
@@ -21,14 +24,6 @@ fn answer(alloc: Global, bytes: &[u8]) -> Result<String, Fail> {
         Err(JunctionFault::Memory) => Err("no memory")?,
     };
     Ok(String::from_utf8(line)?)
-}
-
-/// The text with the first place of `old` changed to `new`.
-fn changed(alloc: Global, text: &str, old: &str, new: &str) -> Result<String, Fail> {
-    let (before, after) = text
-        .split_once(old)
-        .ok_or("the text lacks what is to be changed")?;
-    Ok(format!(in alloc; "{before}{new}{after}")?)
 }
 
 /// Reads the base with the changes of each row, made one after another.

@@ -60,6 +60,29 @@ fn needs_of_two_groups(rt: HostRuntime) -> Result<(), Fail> {
     Ok(())
 }
 
+/// The same groups with maxima of 33 seconds: the first group's need is its maximum, or one second past
+/// it and so none.
+#[test]
+fn needs_at_a_maximum(rt: HostRuntime) -> Result<(), Fail> {
+    let alloc = rt.alloc();
+    let text = pair(alloc, (60, 60), BUSY, QUIET, (5, 5))?;
+    let text = text.as_str().replace(alloc, "version = 1", "version = 2")?;
+    let text = text
+        .as_str()
+        .replace(alloc, "end_gain = 0", "end_gain = 0\nmax_green = 33")?;
+    let beat = ratio(&rt, 297, 200);
+    check(
+        &rt,
+        &read(alloc, text.as_bytes())?,
+        &[
+            (ALL_LANES, Target::Reach(beat), 60, [33, 17]),
+            (ALL_LANES, Target::Beat(beat), 60, [301, 17]),
+            (SECOND_LANE, Target::Beat(beat), 60, [7, 17]),
+        ],
+    );
+    Ok(())
+}
+
 /// Four tenths of the cycle, and the next whole second.
 #[test]
 fn needs_rise_with_the_cycle(rt: HostRuntime) -> Result<(), Fail> {

@@ -1,3 +1,5 @@
+mod maxima_and_links;
+
 use crate::samples::PAIR;
 use crate::samples::pair::{BUSY, COMMON, NO_LANES, QUIET, SATURATED, SECOND_LANE, Side, pair};
 use crate::samples::questions::has_each_group;

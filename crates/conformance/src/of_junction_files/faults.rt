@@ -3,9 +3,8 @@ use crate::samples::PAIR;
 use std::test::Fail;
 
 /// A fault of each kind.
-const FAULTS: [Row<'static>; 34] = [
+const FAULTS: [Row<'static>; 33] = [
     (&[("version = 1", "")], "2 version top 0 version"),
-    (&[("version = 1", "version = 2")], "2 version top 0 version"),
     (&[("version = 1", "version = 3")], "2 version top 0 version"),
     (
         &[("version = 1", "version = \"1\"")],
@@ -126,13 +125,13 @@ end_gain = 0
 /// Two changes: the kind that is looked for first is told, wherever it stands.
 const TWO_FAULTS: [Row<'static>; 10] = [
     (
-        &[("version = 1", "version = 2"), ("b_to_a = 5", "b_to_a")],
+        &[("version = 1", "version = 3"), ("b_to_a = 5", "b_to_a")],
         "1 not_toml top 0 whole",
     ),
     (
         &[
             ("name = \"pair\"", "name = 1"),
-            ("version = 1", "version = 2"),
+            ("version = 1", "version = 3"),
         ],
         "2 version top 0 version",
     ),

@@ -1,4 +1,4 @@
-use crate::samples::{CROSSROADS, PAIR, RING};
+use crate::samples::{CROSSROADS, EARLY_START, PAIR, RING};
 use junction_files::{print, read};
 use std::alloc::Global;
 use std::test::Fail;
@@ -57,12 +57,13 @@ saturation = 1800
 #[test]
 fn what_is_printed_reads_back(rt: HostRuntime) -> Result<(), Fail> {
     let alloc = rt.alloc();
-    for text in [PAIR, RING, CROSSROADS] {
+    for text in [PAIR, RING, CROSSROADS, EARLY_START] {
         let junction = read(alloc, text.as_bytes())?;
         let printed = print(alloc, &junction)?;
         let back = read(alloc, &printed)?;
         assert_eq!(rt; back.groups(), junction.groups());
         assert_eq!(rt; back.lanes(), junction.lanes());
+        assert_eq!(rt; back.conflicts().links(), junction.conflicts().links());
         assert_eq!(rt; again(alloc, &printed)?.as_slice(), printed.as_slice());
     }
     Ok(())
@@ -103,5 +104,95 @@ fn one_junction_in_several_spellings(rt: HostRuntime) -> Result<(), Fail> {
         let spelled = again(alloc, text.as_bytes())?;
         assert_eq!(rt; spelled.as_slice(), PRINTED.as_bytes(), "{new}");
     }
+    Ok(())
+}
+
+/// The second version as it is printed, here without its lanes: each group gives its maximum, and the
+/// links come last.
+const SECOND: &str = "greatest_cycle = 60
+least_cycle = 24
+name = \"early start\"
+version = 2
+
+[[conflict]]
+a = \"A\"
+a_to_b = 5
+b = \"B\"
+b_to_a = 5
+
+[[conflict]]
+a = \"B\"
+a_to_b = 5
+b = \"C\"
+b_to_a = 5
+
+[[group]]
+amber = 3
+end_gain = 0
+max_green = 20
+min_green = 7
+name = \"A\"
+red_amber = 2
+start_lost = 0
+
+[[group]]
+amber = 3
+end_gain = 0
+max_green = 300
+min_green = 7
+name = \"B\"
+red_amber = 2
+start_lost = 0
+
+[[group]]
+amber = 3
+end_gain = 0
+max_green = 300
+min_green = 7
+name = \"C\"
+red_amber = 2
+start_lost = 0
+";
+
+const LAST_LINK: &str = "
+[[link]]
+after = 10
+follower = \"C\"
+leader = \"A\"
+";
+
+#[test]
+fn the_second_version_printed(rt: HostRuntime) -> Result<(), Fail> {
+    let printed = String::from_utf8(again(rt.alloc(), EARLY_START.as_bytes())?)?;
+    assert!(rt; printed.as_str().starts_with(SECOND));
+    assert!(rt; printed.as_str().ends_with(LAST_LINK));
+    Ok(())
+}
+
+/// What the sample of the second version is changed to, and the version that is printed.
+const VERSIONS: [(&str, &str, &str); 3] = [
+    ("max_green = 20", "max_green = 300", "version = 2"),
+    ("after = 10", "after = 0", "version = 2"),
+    ("leader = \"A\"", "leader = \"B\"", "version = 2"),
+];
+
+/// The second version is printed only where a maximum or a link asks for it.
+#[test]
+fn the_version_that_is_printed(rt: HostRuntime) -> Result<(), Fail> {
+    let alloc = rt.alloc();
+    for (old, new, version) in VERSIONS {
+        let text = EARLY_START.replace(alloc, old, new)?;
+        let printed = String::from_utf8(again(alloc, text.as_bytes())?)?;
+        assert!(rt; printed.as_str().contains(version), "{new}");
+    }
+    let text = PAIR.replace(alloc, "version = 1", "version = 2\nlink = []")?;
+    let printed = again(alloc, text.as_bytes())?;
+    assert_eq!(rt; printed.as_slice(), PRINTED.as_bytes());
+    let text = text
+        .as_str()
+        .replace(alloc, "end_gain = 0", "end_gain = 0\nmax_green = 299")?;
+    let printed = String::from_utf8(again(alloc, text.as_bytes())?)?;
+    assert!(rt; printed.as_str().contains("version = 2"));
+    assert!(rt; !printed.as_str().contains("link"));
     Ok(())
 }

@@ -19,3 +19,23 @@ fn ratios(rt: HostRuntime) {
     let more = Ratio::new(57, 56).expect(&rt, "a ratio");
     assert!(rt; more.compare(&one) == Ordering::Greater);
 }
+
+/// Two numbers, and whether they are in lowest terms as they stand.
+const TERMS: [(u64, u64, bool); 7] = [
+    (2, 3, true),
+    (4, 6, false),
+    (0, 1, true),
+    (0, 2, false),
+    (1, 0, false),
+    (u64::MAX, 1, true),
+    (u64::MAX, u64::MAX, false),
+];
+
+#[test]
+fn ratios_in_lowest_terms(rt: HostRuntime) {
+    for (num, den, lowest) in TERMS {
+        let found = Ratio::in_lowest_terms(num, den).map(|ratio| (ratio.num(), ratio.den()));
+        let want = if lowest { Some((num, den)) } else { None };
+        assert_eq!(rt; found, want, "{num} over {den}");
+    }
+}

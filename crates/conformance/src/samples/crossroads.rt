@@ -1,3 +1,8 @@
+/// A plan of cycle 90 that fits it.
+pub const STARTS: [u32; 8] = [0, 0, 30, 30, 65, 66, 30, 65];
+
+pub const GREENS: [u32; 8] = [25, 23, 31, 30, 8, 9, 6, 6];
+
 /// A crossroads of eight groups: two main approaches, two side approaches, two right turns and two
 /// crossings.
 pub const CROSSROADS: &str = "version = 1
