@@ -1,0 +1,17 @@
+pub mod Due
+pub mod Lean
+pub mod Search
+pub mod SearchedNodes
+pub mod Answer
+pub mod Session
+pub mod Advances
+pub mod DueItems
+pub mod Way
+pub mod Place
+pub mod Visited
+pub mod Standing
+pub mod Raised
+pub mod Forest
+pub mod Joined
+pub mod JunctionAnswer
+pub mod JoinedLaws
