@@ -1,0 +1,6 @@
+//! The greatest reserve capacity over all cycles of a junction.
+#![tactic(auto)]
+
+mod greatest;
+
+pub use greatest::capacity;
