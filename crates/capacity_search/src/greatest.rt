@@ -2,7 +2,7 @@
 //! far, or, while there is none, for its best plan that reaches the least. So a later plan is better than the earlier ones,
 //! and of two plans as good the one of the shorter cycle stays. A tree that closed its cycle for an earlier target closes
 //! it for that of a later plan, since needs only rise; so in the end each cycle is closed for its target beside the best
-//! plan. One search a cycle, with what is left of the budget.
+//! plan. One search a cycle, with what is left of the budget; then each tree is trimmed for that target.
 ghost use Rattle.std.specs.Prelude.{◌≡◌, ◌<◌, ◌↔◌, IfOk, IfSome};
 ghost use Rattle.sig_base.specs.Ratio.{fraction_of};
 ghost use Rattle.junction_model.specs.Covers.{cover_of};
@@ -15,6 +15,7 @@ ghost use Rattle.cycle_orders.specs.Forest.{IsGreatest, IsExhausted, IsStoppedAt
 ghost use Rattle.cycle_orders.specs.Joined.{next_target};
 ghost use Rattle.cycle_orders.specs.JunctionAnswer.{IfOptimal, IfInfeasible, IfStopped, IsNoPlan, IsStop, IsPlanOf, carried_by};
 
+use crate::trimming::trim_beside;
 use constraint_cycles::Forest;
 use cycle_orders::{Answer, CycleAnswer, Mode, joined_law, search};
 use junction_model::Junction;
@@ -82,14 +83,17 @@ fn greatest<'j, F: Fn(Target, u32, usize) -> u32 + NeedClosure + Drop>(
         }
     }
     match best {
-        Some(plan) => Ok(Answer::Optimal(plan, forest)),
+        Some(plan) => {
+            let trimmed = trim_beside(alloc, &rule, &forest, &plan, multiple)?;
+            Ok(Answer::Optimal(plan, trimmed))
+        }
         None => Ok(Answer::Infeasible(forest)),
     }
 }
 
 /// A plan of the greatest multiplier among all plans that fit, of any cycle, and of these one of the shortest cycle;
 /// `Infeasible` where none meets the least multiple, `Stopped` where as many nodes as the budget were visited and one is
-/// left. The plan has group 0 at second 0.
+/// left. The plan has group 0 at second 0. The trees of the best plan are trimmed, those of the other answers aren't.
 pub fn capacity<'j>(
     alloc: Global,
     junction: &'j Junction,

@@ -2,5 +2,6 @@
 #![tactic(auto)]
 
 mod greatest;
+mod trimming;
 
 pub use greatest::capacity;

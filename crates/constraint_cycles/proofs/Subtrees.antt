@@ -8,14 +8,14 @@ use Rattle.constraint_cycles.specs.declared.node.Node.{Node}
 use Rattle.constraint_cycles.specs.declared.node.Node.TheVariants.{Split, Closed, Unvisited}
 
 -- the nodes are those of the first orders, and then those of the others
-record IsParted (xs ys : List (List Mark)) (nodes : List Node) : Type 0 where
-  first : List Node
-  second : List Node
-  parts : nodes ≡ first ++ second
-  leads_first : Leads xs first []
-  leads_second : Leads ys second []
+pub record IsParted (xs ys : List (List Mark)) (nodes : List Node) : Type 0 where
+  pub first : List Node
+  pub second : List Node
+  pub parts : nodes ≡ first ++ second
+  pub leads_first : Leads xs first []
+  pub leads_second : Leads ys second []
 
-parted : (nodes : List Node) (xs ys : List (List Mark)) → Leads (xs ++ ys) nodes [] → IsParted xs ys nodes
+pub parted : (nodes : List Node) (xs ys : List (List Mark)) → Leads (xs ++ ys) nodes [] → IsParted xs ys nodes
 parted nodes [] ys h = record { first = []; second = nodes; parts = refl; leads_first = refl; leads_second = h }
 parted [] (marks ∷ xs) ys h = cc
 parted (node ∷ nodes) (marks ∷ xs) ys h =

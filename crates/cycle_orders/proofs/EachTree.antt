@@ -1,8 +1,9 @@
 -- The trees of a forest, each beside its cycle.
-use Rattle.std.proofs.Common.{ℕ, List, [], ◌∷◌, ◌++◌, ◌≡◌, ◌+◌, ◌<◌, ◌≤◌, length, inl, inr, subst, arith}
+use Rattle.std.proofs.Common.{ℕ, zero, suc, List, [], ◌∷◌, ◌++◌, Some, slice_get, ◌≡◌, ◌+◌, ◌<◌, ◌≤◌, length, inl, inr, subst, arith}
 use Rattle.std.specs.Prelude.{All}
 use Rattle.std.proofs.lemmas.Bool.{cases_lt}
 use Rattle.std.proofs.lemmas.List.Elements.{All-cons}
+use Rattle.std.proofs.lemmas.Option.{none-some, same_Some}
 use Rattle.constraint_cycles.specs.declared.node.Node.{Node}
 use Rattle.cycle_orders.specs.Forest.{EachTree}
 
@@ -22,6 +23,17 @@ module _ (P : ℕ → List Node → Type 0) where
     | inl later ↦ tree_of forest (cycle + 1) own (omega (arith, later)) (omega (arith, below)) each.1
     | inr here ↦ (let same : cycle ≡ own = omega (arith, from, here) in (tree, subst (λ c. P c tree) same each.0))
   ]
+
+  -- the tree of a number
+  pub tree_at : (forest : List (List Node)) (cycle number : ℕ) (nodes : List Node) → slice_get forest number ≡ Some nodes → EachTree P cycle forest → P (cycle + number) nodes
+  tree_at [] cycle number nodes at each = absurd (none-some nodes at)
+  tree_at (tree ∷ forest) cycle zero nodes at each =
+      let own : tree ≡ nodes = same_Some tree nodes at in
+      let here : cycle ≡ cycle + 0 = omega arith in
+      subst (λ c. P c nodes) here (subst (P cycle) own each.0)
+  tree_at (tree ∷ forest) cycle (suc number) nodes at each =
+      let here : cycle + 1 + number ≡ cycle + suc number = omega arith in
+      subst (λ c. P c nodes) here (tree_at forest (cycle + 1) number nodes at each.1)
 
 -- what follows for each tree
 pub map_trees : (P Q : ℕ → List Node → Type 0) (forest : List (List Node)) (cycle : ℕ) →

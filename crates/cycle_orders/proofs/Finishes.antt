@@ -1,7 +1,6 @@
 -- The answer of a session that ends.
-use Rattle.std.proofs.Common.{◌≡◌, ℕ, ◌+◌, ◌-◌, ◌<◌, ◌≤◌, List, [], ◌∷◌, length, refl, sym, subst, ap, ◌∙◌, arith, drop, slice_index_or, Option, None, Some}
+use Rattle.std.proofs.Common.{◌≡◌, ℕ, ◌-◌, ◌<◌, ◌≤◌, List, [], ◌∷◌, length, refl, sym, subst, ◌∙◌, arith, drop, slice_index_or, Option}
 use Rattle.sig_base.specs.declared.target.Target.{Target}
-use Rattle.constraint_cycles.specs.Marks.{root_marks}
 use Rattle.constraint_cycles.specs.declared.mark.Mark.{Mark}
 use Rattle.constraint_cycles.specs.declared.node.Node.{Node}
 use Rattle.junction_model.specs.Rules.{IsJunction}

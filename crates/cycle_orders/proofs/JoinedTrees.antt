@@ -282,7 +282,6 @@ module _ (rising_walk : RisingWalkLaw) (rising_cycle : RisingCycleLaw) (closed_c
       ] in (
         record { meets = joined.best.asked.meets; multiplier = fraction_of multiple; is = multiplier; greatest = greatest; shortest = shortest },
         record {
-          multiplier = multiple;
           is = multiplier;
           trees = joined.below;
           closed = map_trees _ _ forest junction.least_cycle (λ c nodes from below ended. closes_cycle junction least (target_with (Some p) multiple c) c nodes ended) joined.trees;

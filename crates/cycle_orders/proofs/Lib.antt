@@ -10,6 +10,8 @@ pub mod Searched
 pub mod SearchTrees
 pub mod Standings
 pub mod TargetOrders
+pub mod Trimmed
+pub mod TrimSteps
 pub mod Finishes
 pub mod EachTree
 pub mod JoinedTargets

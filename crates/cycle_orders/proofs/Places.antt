@@ -1,27 +1,34 @@
 -- The place of a search, from its parts.
-use Rattle.std.proofs.Common.{◌≡◌, ◌≢◌, ℕ, ◌+◌, ◌-◌, ◌<◌, ◌≤◌, List, [], ◌∷◌, ◌++◌, Option, None, Some, length, refl, sym, subst, ap, ◌∙◌, arith, drop, set, slice_get, slice_index_or}
-use Rattle.std.specs.Prelude.{MatchOption}
-use Rattle.std.proofs.lemmas.Option.{slice_get_within, same_Some}
+use Rattle.std.proofs.Common.{◌≡◌, ◌≢◌, ℕ, ◌+◌, ◌-◌, ◌<◌, ◌≤◌, List, [], ◌∷◌, ◌++◌, Option, None, Some, length, length-append, length-take-le, get_or-take, refl, sym, subst, ap, ◌∙◌, arith, drop, set, slice_get, slice_index, slice_index_or}
+use Rattle.std.proofs.Math.ListN.{get_or-append}
+use Rattle.std.proofs.Math.Seq.{get_or_at}
+use Rattle.std.proofs.lemmas.List.Sums.{count_by-le-length}
+use Rattle.std.specs.Prelude.{MatchOption, IfSome, take}
+use Rattle.std.proofs.lemmas.Option.{slice_get_within, slice_get-get_or, same_Some}
+use Rattle.conflict_matrix.specs.Matrix.{Matrix}
 use Rattle.conflict_matrix.specs.Pairs.{fixed_pairs}
 use Rattle.constraint_cycles.specs.Closing.{Closes}
-use Rattle.constraint_cycles.specs.Marks.{OrderView, IsOrderFor, IsDecided}
+use Rattle.constraint_cycles.specs.Marks.{OrderView, IsOrderFor, IsDecided, root_marks}
 use Rattle.constraint_cycles.specs.Starts.{MeetsOrder}
 use Rattle.constraint_cycles.specs.Tree.{orders_below}
+use Rattle.constraint_cycles.specs.TreeShape.{is_open}
 use Rattle.constraint_cycles.specs.WalkLaws.{DecisionLaw}
 use Rattle.constraint_cycles.specs.declared.mark.Mark.{Mark}
 use Rattle.constraint_cycles.specs.declared.mark.Mark.TheVariants.{Open, First}
 use Rattle.constraint_cycles.specs.declared.node.Node.TheVariants.{Split}
+use Rattle.constraint_cycles.proofs.NodeCounts.{decided_count}
 use Rattle.difference_system.specs.Closure.{ClosureView, top_of, MeetsTop, ClosesTop, decided}
 use Rattle.difference_system.specs.Solution.{IsClosingCircuit, IfWalk}
 use Rattle.difference_system.specs.declared.solved.Solved.{Solved}
 use Rattle.difference_system.specs.declared.solved.Solved.TheVariants.{Starts, Walk}
-use Rattle.cycle_orders.specs.Due.{IsDue}
+use Rattle.cycle_orders.specs.Due.{IsDue, IsOpenItem}
+use Rattle.cycle_orders.specs.DueItems.{AreDueItems}
 use Rattle.cycle_orders.specs.Place.{PlaceView, IsPlace, IsMoved, order_at, MeetsHere, ClosesHere, coming_at, closure_orders_at, place_of}
 use Rattle.cycle_orders.specs.Way.{orders_along, orders_above, orders_waiting}
 use Rattle.cycle_orders.specs.declared.place.Standing.{Standing}
 use Rattle.cycle_orders.specs.declared.place.Standing.TheVariants.{Above, At, Past}
 use Rattle.cycle_orders.proofs.Marking.{set_here, set_same, set_again}
-use Rattle.cycle_orders.proofs.Ways.{next_due, all_decided, last_decided, way_down, above_down, waiting_down, along_first, above_first, along_above, along_length}
+use Rattle.cycle_orders.proofs.Ways.{next_due, all_decided, last_decided, way_down, above_down, waiting_down, along_first, above_first, along_above, along_length, below_root, way_agrees, along_agrees, waiting_agrees, open_left}
 
 -- an order is to come: it is the one at hand
 pub at_hand : (items : List ℕ) (standing : Standing) (marks : List Mark) (depth : ℕ) → 1 ≤ length (coming_at items standing marks depth) →
@@ -49,17 +56,17 @@ walk_closes closing (Starts starts) h = h
 walk_closes closing (Walk walk) h = h.closes
 
 module _ (c : ClosureView) (items : List ℕ) (o : OrderView) (depth : ℕ) (standing : Standing) (h : IsPlace c items o depth standing) where
-  -- the next item is the due one; where there is none, each item is decided
-  pub due_or_decided : (next : Option ℕ) → slice_get items depth ≡ next → MatchOption next (IsDecided o.marks) (IsDue c.conflicts o.marks)
-  due_or_decided None at = all_decided c.conflicts items h.due o.marks depth h.way at
-  due_or_decided (Some item) at = next_due c.conflicts items h.due o.marks depth h.way item at
+  -- of the due items the next one is the due one; where there is none, each item is decided
+  pub due_or_decided : AreDueItems c.conflicts items → (next : Option ℕ) → slice_get items depth ≡ next → MatchOption next (IsDecided o.marks) (IsDue c.conflicts o.marks)
+  due_or_decided due None at = all_decided c.conflicts items due o.marks depth h.way at
+  due_or_decided due (Some item) at = next_due c.conflicts items due o.marks depth h.way item at
 
   -- the closure stands at the order at hand
   module _ (entered : standing ≡ At) where
-    top_at : top_of c ≡ o.marks
+    pub top_at : top_of c ≡ o.marks
     top_at = ap (λ l. slice_index_or l 0 []) (h.orders ∙ ap (λ s. closure_orders_at items s o.marks depth) entered) ∙ along_first items o.marks depth
 
-    here_at : order_at (place_of c items o.marks depth standing) ≡ o.marks
+    pub here_at : order_at (place_of c items o.marks depth standing) ≡ o.marks
     here_at = ap (λ s. slice_index_or (coming_at items s o.marks depth) 0 []) entered
 
     pub meets_top : MeetsTop c ≡ MeetsHere (place_of c items o.marks depth standing)
@@ -104,15 +111,15 @@ module _ (c : ClosureView) (items : List ℕ) (o : OrderView) (depth : ℕ) (sta
         let first = ap (λ l. slice_index_or l 0 []) (at_hand items standing o.marks depth here) in
         subst (λ marks. Closes c.conflicts marks c.needs c.cycle walk) (set_top d.mark d.marked ∙ sym first) closed
 
-  -- the next item is decided, and the closure stays
-  module _ (entered : standing ≡ At) (item : ℕ) (at : slice_get items depth ≡ Some item) where
+  -- the next item, an open one, is decided, and the closure stays
+  module _ (entered : standing ≡ At) (item : ℕ) (at : slice_get items depth ≡ Some item)
+      (free : IfSome (slice_get items depth) (IsOpenItem (order_at (place_of c items o.marks depth standing)))) where
     pub next_open : slice_get o.marks item ≡ Some Open
-    next_open = (next_due c.conflicts items h.due o.marks depth h.way item at).is_open
+    next_open = subst (λ marks. IsOpenItem marks item) (here_at entered) (subst (λ x. IfSome x (IsOpenItem (order_at (place_of c items o.marks depth standing)))) at free)
 
     pub descended : (next : OrderView) → IsOrderFor c.conflicts next → next.marks ≡ set o.marks item First → fixed_pairs c.conflicts ≤ item →
         IsPlace c items next (depth + 1) Above
     descended next made marks unfixed = record {
-      due = h.due;
       made = made;
       within = omega (arith, slice_get_within items depth item at);
       way = rw marks (way_down c.conflicts items o.marks depth item First at next_open (λ e. cc) unfixed h.way);
@@ -123,6 +130,47 @@ module _ (c : ClosureView) (items : List ℕ) (o : OrderView) (depth : ℕ) (sta
         coming_at items Above marks (depth + 1)
         ≡ orders_below (order_at (place_of c items o.marks depth standing)) (Split item) ++ drop 1 (coming_at items standing o.marks depth)
     descended_coming marks is = rw (entered, is) (ap (λ l. set o.marks item First ∷ l) (waiting_down c.conflicts items o.marks depth item at next_open))
+
+-- the due item is open
+pub due_free : (m : Matrix) (marks : List Mark) (next : Option ℕ) → MatchOption next (IsDecided marks) (IsDue m marks) → IfSome next (IsOpenItem marks)
+due_free m marks None due = tt
+due_free m marks (Some item) due = due.is_open
+
+-- other items from the order at hand on
+module _ (c : ClosureView) (items : List ℕ) (o : OrderView) (depth : ℕ) (h : IsPlace c items o depth At) (item : ℕ) where
+  abbrev pub led : List ℕ
+  led = take depth items ++ item ∷ []
+
+  led_long : length (take depth items) ≡ depth
+  led_long = length-take-le depth items h.within
+
+  led_same : (k : ℕ) → k < depth → slice_index led k ≡ slice_index items k
+  led_same k below = get_or-append (take depth items) (item ∷ []) 0 k (omega (arith, led_long, below)) ∙ get_or-take depth items k 0 below
+
+  pub led_next : slice_get led depth ≡ Some item
+  led_next =
+      let long : length led ≡ depth + 1 = length-append (take depth items) (item ∷ []) ∙ ap (λ n. n + 1) led_long in
+      slice_get-get_or led depth 0 (omega (arith, long)) ∙ ap (λ x. Some x) (get_or_at (take depth items) item [] 0 depth led_long)
+
+  pub led_place : IsPlace c led o depth At
+  led_place = record {
+    made = h.made;
+    within = omega (arith, length-append (take depth items) (item ∷ []), led_long);
+    way = way_agrees items led c.conflicts o.marks depth led_same h.way;
+    orders = h.orders ∙ sym (along_agrees items led o.marks depth led_same);
+  }
+
+  pub led_coming : coming_at led At o.marks depth ≡ coming_at items At o.marks depth
+  led_coming = ap (λ l. o.marks ∷ l) (waiting_agrees items led o.marks depth led_same)
+
+  -- the way down leaves room for one more decision
+  pub led_room : length o.marks ≤ 132 → slice_get o.marks item ≡ Some Open → depth < 132
+  led_room few free =
+      let left = open_left c.conflicts items o.marks depth h.way in
+      let one = decided_count o.marks item First free refl in
+      let all = count_by-le-length is_open (root_marks c.conflicts) in
+      let same = (below_root c.conflicts items o.marks depth h.way).as_many in
+      omega (arith, left, one, all, same, few)
 
 pub entered_long : (c : ClosureView) (items : List ℕ) (o : OrderView) (depth : ℕ) (standing : Standing) → IsPlace c items o depth standing → standing ≡ At → 1 ≤ depth → 2 ≤ length c.orders
 entered_long c items o depth standing h entered some =

@@ -21,6 +21,7 @@ use Rattle.least_greens.specs.Targets.{IsNotAbove}
 use Rattle.plan_model.specs.Fits.{group_count}
 use Rattle.plan_model.specs.Multiplier.{IsLeastMultiplier}
 use Rattle.plan_model.specs.SignalPlan.{PlanView, green_of}
+use Rattle.cycle_orders.specs.DueItems.{AreDueItems}
 use Rattle.cycle_orders.specs.Place.{PlaceView, IsMoved, AreStartsHere, order_at, MeetsHere, with_needs}
 use Rattle.cycle_orders.specs.Raised.{total, needs_left}
 use Rattle.cycle_orders.specs.Search.{SearchView, IsPlanFor}
@@ -38,10 +39,10 @@ least_agreeing agreeing m marks needs other cycle starts same h = record {
 -- least starts of the order at hand are those of a full order
 pub starts_of_full : AgreeingLaw → (s : SearchView) (target : Target) (p : PlaceView) (starts : List ℕ) → IsPlaceFor s target p → AreStartsHere p starts → AreStartsOfFullOrder s target (order_at p) starts
 starts_of_full agreeing s target p starts place h = record {
-  below_root = rw place.conflicts at h.below_root;
+  below_root = rw place.asks.conflicts at h.below_root;
   decided = h.decided;
-  least = least_agreeing agreeing s.junction.conflicts (order_at p) p.needs (needs_of s.junction s.lanes target s.cycle) s.cycle starts place.needs (rw (place.conflicts, place.lasts) at h.least);
-  within = rw (place.conflicts, place.lasts) at h.within;
+  least = least_agreeing agreeing s.junction.conflicts (order_at p) p.needs (needs_of s.junction s.lanes target s.cycle) s.cycle starts place.asks.needs (rw (place.asks.conflicts, place.asks.lasts) at h.least);
+  within = rw (place.asks.conflicts, place.asks.lasts) at h.within;
 }
 
 total_less : (f g : ℕ → ℕ) (n : ℕ) → ((k : ℕ) → k < n → g k ≤ f k) → total g n ≤ total f n
@@ -93,9 +94,12 @@ module _ (s : SearchView) (t u : Target) (old raised new : PlaceView) (needs : L
 
   pub raised_place : AgreeOnGroups s.junction.conflicts needs (needs_of s.junction s.lanes u s.cycle) → IsPlaceFor s u new
   raised_place agree = record {
-    conflicts = moved.conflicts ∙ ap (λ v. v.conflicts) is ∙ place.conflicts;
-    lasts = moved.cycle ∙ ap (λ v. v.cycle) is ∙ place.lasts;
-    needs = λ g below. ap (λ xs. slice_index xs g) (moved.needs ∙ ap (λ v. v.needs) is) ∙ agree g below;
+    asks = record {
+      conflicts = moved.conflicts ∙ ap (λ v. v.conflicts) is ∙ place.asks.conflicts;
+      lasts = moved.cycle ∙ ap (λ v. v.cycle) is ∙ place.asks.lasts;
+      needs = λ g below. ap (λ xs. slice_index xs g) (moved.needs ∙ ap (λ v. v.needs) is) ∙ agree g below;
+    };
+    due = subst (AreDueItems s.junction.conflicts) (sym (moved.items ∙ ap (λ v. v.items) is)) place.due;
   }
 
   pub raised_starts : (starts later : List ℕ) → AreStartsHere old starts → AreLeastStarts (MeetsHere raised) later → AreStartsWithin raised.conflicts.groups raised.cycle later → AreStartsHere new later

@@ -53,7 +53,7 @@ module _ (rising : RisingWalkLaw) (s : SearchView) (some : 1 ≤ s.cycle) where
     passed_beaten (visit ∷ before) g (inr later) = passed_beaten before g.1 later
 
   -- an order that no walk closes for the running target is needed
-  needed : PassedPlanLaw → (t : Target) (before : List Visit) (marks : List Mark) → IsNotAbove s.target t → EachVisit (sound_for t) before →
+  pub needed : PassedPlanLaw → (t : Target) (before : List Visit) (marks : List Mark) → IsNotAbove s.target t → EachVisit (sound_for t) before →
       IsUnclosed s.junction s.lanes t s.cycle marks → IsNeeded s.junction s.lanes s.target s.cycle before marks
   needed passed_law t before marks h g unclosed = record {
     unclosed = λ walk c. unclosed walk (rising s.junction s.lanes s.target t s.cycle marks walk some h c);

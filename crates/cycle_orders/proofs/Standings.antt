@@ -15,11 +15,12 @@ use Rattle.least_greens.specs.Targets.{IsNotAbove}
 use Rattle.plan_model.specs.FittedPlan.{junction_of, fitted_plan_of}
 use Rattle.plan_model.specs.declared.fitted_plan.FittedPlan.{FittedPlan}
 use Rattle.cycle_orders.specs.Answer.{plan_in, IsCarried}
+use Rattle.cycle_orders.specs.DueItems.{AreDueItems}
 use Rattle.cycle_orders.specs.Lean.{IsUnclosed}
 use Rattle.cycle_orders.specs.Place.{PlaceView, IsMoved, order_at, coming_later, MeetsHere, ClosesHere}
 use Rattle.cycle_orders.specs.Search.{SearchView, IsRunning, IsPlanFor, IsEarlierPlan}
 use Rattle.cycle_orders.specs.SearchedNodes.{AreSearched}
-use Rattle.cycle_orders.specs.Standing.{IsTreeSoFar, IsPlaceFor, IsOnTheWay, HasFirstPlan, IsStandingIn}
+use Rattle.cycle_orders.specs.Standing.{IsTreeSoFar, HasNeedsOf, IsPlaceFor, IsOnTheWay, HasFirstPlan, IsStandingIn}
 use Rattle.cycle_orders.specs.Raised.{IsRaised}
 use Rattle.cycle_orders.specs.Visited.{IsClosing, IsSplitting, IsVisit}
 use Rattle.cycle_orders.specs.declared.raising.Raised.{Raised}
@@ -34,21 +35,27 @@ first_and_rest [] some = absurd (omega arith)
 first_and_rest (marks ∷ rest) some = refl
 
 module _ (s : SearchView) where
-  pub place_moved : (t : Target) (old new : PlaceView) (orders : List (List Mark)) → IsPlaceFor s t old → IsMoved old new orders → IsPlaceFor s t new
-  place_moved t old new orders h moved = record {
+  pub needs_moved : (t : Target) (old new : PlaceView) (orders : List (List Mark)) → HasNeedsOf s t old → IsMoved old new orders → HasNeedsOf s t new
+  needs_moved t old new orders h moved = record {
     conflicts = moved.conflicts ∙ h.conflicts;
     lasts = moved.cycle ∙ h.lasts;
     needs = λ g below. ap (λ xs. slice_index xs g) moved.needs ∙ h.needs g below;
   }
 
+  pub place_moved : (t : Target) (old new : PlaceView) (orders : List (List Mark)) → IsPlaceFor s t old → IsMoved old new orders → IsPlaceFor s t new
+  place_moved t old new orders h moved = record {
+    asks = needs_moved t old new orders h.asks moved;
+    due = subst (AreDueItems s.junction.conflicts) (sym moved.items) h.due;
+  }
+
   -- a walk that closes the order at hand does so for the target
-  pub closes_for : GreaterNeedsLaw → (t : Target) (p : PlaceView) (walk : List ℕ) → IsPlaceFor s t p → ClosesHere p walk → ClosesFor s.junction s.lanes t s.cycle (order_at p) walk
+  pub closes_for : GreaterNeedsLaw → (t : Target) (p : PlaceView) (walk : List ℕ) → HasNeedsOf s t p → ClosesHere p walk → ClosesFor s.junction s.lanes t s.cycle (order_at p) walk
   closes_for greater t p walk h closes =
       greater s.junction.conflicts (order_at p) p.needs (needs_of s.junction s.lanes t s.cycle) s.cycle walk (λ g below. let same = h.needs g below in omega arith)
       (rw (h.conflicts, h.lasts) at closes)
 
   -- where starts meet it none does
-  pub unclosed_for : AgreeingLaw → ExclusionLaw → (t : Target) (p : PlaceView) (starts : List ℕ) → IsPlaceFor s t p → MeetsHere p starts → IsUnclosed s.junction s.lanes t s.cycle (order_at p)
+  pub unclosed_for : AgreeingLaw → ExclusionLaw → (t : Target) (p : PlaceView) (starts : List ℕ) → HasNeedsOf s t p → MeetsHere p starts → IsUnclosed s.junction s.lanes t s.cycle (order_at p)
   unclosed_for agreeing exclusion t p starts h meets walk =
       exclusion s.junction.conflicts (order_at p) (needs_of s.junction s.lanes t s.cycle) s.cycle starts walk
       (agreeing s.junction.conflicts (order_at p) p.needs (needs_of s.junction s.lanes t s.cycle) s.cycle starts starts h.needs (λ g below. refl)
@@ -62,7 +69,7 @@ module _ (s : SearchView) where
         let first : IsTreeSoFar s t tree k (order_at old ∷ coming_later old) = subst (IsTreeSoFar s t tree k) (first_and_rest old.coming there) h in (
           place_moved u old new (coming_later old) place visit.moved,
           rw (visit.set, visit.moved.coming)
-              (tree_closed s rising some t tree k (order_at old) (coming_later old) first transitive u visit.walk risen (closes_for greater u old visit.walk place visit.closes)),
+              (tree_closed s rising some t tree k (order_at old) (coming_later old) first transitive u visit.walk risen (closes_for greater u old visit.walk place.asks visit.closes)),
         )
 
     pub way_split : PassedPlanLaw → AgreeingLaw → ExclusionLaw → (t : Target) → IsTreeSoFar s t tree k old.coming → IsPlaceFor s t old → IsSplitting old new tree grown k →
@@ -71,8 +78,8 @@ module _ (s : SearchView) where
         let first : IsTreeSoFar s t tree k (order_at old ∷ coming_later old) = subst (IsTreeSoFar s t tree k) (first_and_rest old.coming there) h in (
           place_moved t old new _ place visit.moved,
           rw (visit.set, visit.moved.coming)
-              (tree_split s rising some t tree k (order_at old) (coming_later old) first passed visit.item (rw place.conflicts at visit.due)
-              (unclosed_for agreeing exclusion t old visit.starts place visit.meets)),
+              (tree_split s rising some t tree k (order_at old) (coming_later old) first passed visit.item (rw place.asks.conflicts at visit.due)
+              (unclosed_for agreeing exclusion t old visit.starts place.asks visit.meets)),
         )
 
   -- in mode First a session without a plan is on the way, and in mode Best each one

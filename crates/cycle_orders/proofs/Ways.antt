@@ -1,5 +1,5 @@
 -- The way down to an order, as it grows and is taken back.
-use Rattle.std.proofs.Common.{◌≡◌, ◌≢◌, ℕ, zero, suc, ◌+◌, ◌-◌, ◌<◌, ◌≤◌, List, [], ◌∷◌, false, inl, inr, length, length-set, Some, None, refl, sym, subst, ap, ◌∙◌, arith, add-one, drop, set, slice_get, slice_index, slice_index_or}
+use Rattle.std.proofs.Common.{◌≡◌, ◌≢◌, ℕ, zero, suc, ◌+◌, ◌-◌, ◌<◌, ◌≤◌, List, [], ◌∷◌, false, inl, inr, count_by, length, length-set, Some, None, refl, sym, subst, ap, ◌∙◌, arith, add-one, drop, set, slice_get, slice_index, slice_index_or}
 use Rattle.std.proofs.lemmas.Bool.{cases_lt, cases_eq}
 use Rattle.std.proofs.lemmas.List.Elements.{All-from_get_or}
 use Rattle.std.proofs.lemmas.Option.{none-some, slice_get_within, slice_get-get_or, get_or_from_slice_get, same_Some}
@@ -8,11 +8,13 @@ use Rattle.conflict_matrix.specs.Pairs.{fixed_pairs}
 use Rattle.constraint_cycles.specs.Marks.{root_marks, IsDecided, Refines}
 use Rattle.constraint_cycles.specs.declared.mark.Mark.{Mark}
 use Rattle.constraint_cycles.specs.declared.mark.Mark.TheVariants.{Open, First, Second}
+use Rattle.constraint_cycles.specs.TreeShape.{is_open}
+use Rattle.constraint_cycles.proofs.NodeCounts.{decided_count}
 use Rattle.cycle_orders.specs.Due.{IsDue, ComesBefore, IsOpenItem}
 use Rattle.cycle_orders.specs.DueItems.{AreDueItems}
 use Rattle.cycle_orders.specs.Way.{is_first, IsDecidedItem, IsWay, order_above, orders_along, orders_above, orders_waiting}
 use Rattle.cycle_orders.proofs.DueOrder.{apart, one_way}
-use Rattle.cycle_orders.proofs.Marking.{set_back, set_again, set_here, set_there}
+use Rattle.cycle_orders.proofs.Marking.{set_back, set_again, set_here, set_same, set_there}
 
 module _ (m : Matrix) (items : List ℕ) where
   -- an item that is open isn't decided on the way, and the root order leaves it open
@@ -207,3 +209,44 @@ above_first items marks depth item some at =
 pub along_above : (items : List ℕ) (marks : List Mark) (depth : ℕ) → 1 ≤ depth → orders_along items marks depth ≡ marks ∷ orders_above items marks depth
 along_above items marks zero some = absurd (omega arith)
 along_above items marks (suc depth) some = refl
+
+-- items that agree on the way have the same one
+module _ (items other : List ℕ) where
+  abbrev pub AgreeBelow : ℕ → Type 0
+  AgreeBelow depth = (k : ℕ) → k < depth → slice_index other k ≡ slice_index items k
+
+  agree_before : (depth : ℕ) → AgreeBelow (suc depth) → AgreeBelow depth
+  agree_before depth same k below = same k (omega (arith, below))
+
+  pub way_agrees : (m : Matrix) (marks : List Mark) (depth : ℕ) → AgreeBelow depth → IsWay items m marks depth → IsWay other m marks depth
+  way_agrees m marks zero same way = way
+  way_agrees m marks (suc depth) same way =
+      rw (same depth (omega arith)) (way.0, way_agrees m (order_above items marks depth) depth (agree_before depth same) way.1)
+
+  pub along_agrees : (marks : List Mark) (depth : ℕ) → AgreeBelow depth → orders_along other marks depth ≡ orders_along items marks depth
+  along_agrees marks zero same = refl
+  along_agrees marks (suc depth) same =
+      rw (same depth (omega arith)) (ap (λ l. marks ∷ l) (along_agrees (order_above items marks depth) depth (agree_before depth same)))
+
+  pub waiting_agrees : (marks : List Mark) (depth : ℕ) → AgreeBelow depth → orders_waiting other marks depth ≡ orders_waiting items marks depth
+  waiting_agrees marks zero same = refl
+  waiting_agrees marks (suc depth) same =
+      rw (same depth (omega arith), waiting_agrees (order_above items marks depth) depth (agree_before depth same)) refl
+
+closed_mark : (mark : Mark) → mark ≢ Open → is_open mark ≡ false
+closed_mark Open decides = absurd (decides refl)
+closed_mark First decides = refl
+closed_mark Second decides = refl
+
+-- each decision on the way leaves one open item less
+pub open_left : (m : Matrix) (items : List ℕ) (marks : List Mark) (depth : ℕ) → IsWay items m marks depth →
+    count_by is_open marks + depth ≡ count_by is_open (root_marks m)
+open_left m items marks zero way = rw way (omega arith)
+open_left m items marks (suc depth) way =
+    let item = slice_index items depth in
+    let d = way.0 in
+    let back : set (set marks item Open) item d.mark ≡ marks = set_again marks item Open d.mark ∙ set_same marks item d.mark d.marked in
+    let one = decided_count (set marks item Open) item d.mark (set_here marks item d.mark Open d.marked) (closed_mark d.mark d.decides) in
+    let same = ap (count_by is_open) back in
+    let before = open_left m items (set marks item Open) depth way.1 in
+    omega (arith, one, same, before)

@@ -4,7 +4,6 @@ use Rattle.sig_base.specs.declared.target.Target.{Target}
 use Rattle.conflict_matrix.specs.Pairs.{tree_cover_of}
 use Rattle.constraint_cycles.specs.Marks.{root_marks}
 use Rattle.constraint_cycles.specs.Tree.{AllNodes, IsSound, IsVisited, IsWholeTree, visited_count}
-use Rattle.constraint_cycles.specs.TreeShape.{most_nodes}
 use Rattle.constraint_cycles.specs.declared.mark.Mark.{Mark}
 use Rattle.constraint_cycles.specs.declared.node.Node.{Node}
 use Rattle.constraint_cycles.specs.declared.node.Node.TheVariants.{Unvisited}

@@ -68,13 +68,22 @@ module _ (junction : JunctionView) (least : Ratio) where
   abbrev pub IsLeanForLeast : ℕ → List Node → Type 0
   IsLeanForLeast cycle nodes = IsLeanFor junction all_lanes (Reach least) cycle nodes
 
-  -- each cycle is closed for reaching the plan's multiplier below the plan's cycle, and for beating it from there on
+  -- each cycle is closed for its target beside the plan: to reach the plan's multiplier below the plan's cycle, and to
+  -- beat it from there on
+  pub record IsClosedBeside (p : PlanView) (multiplier : Ratio) (forest : List (List Node)) : Type 0 where
+    pub is : IsPlanMultiplier junction p (fraction_of multiplier)
+    pub trees : HasTreesBelow junction (junction.greatest_cycle + 1) forest
+    pub closed : EachTreeOf junction (λ cycle. ClosesCycleFor junction all_lanes (target_beside p.cycle multiplier cycle) cycle) forest
+    pub lean : EachTreeOf junction IsLeanForLeast forest
+
+  -- so it is, and each tree is lean for that target too
   pub record IsGreatest (p : PlanView) (forest : List (List Node)) : Type 0 where
     pub multiplier : Ratio
     pub is : IsPlanMultiplier junction p (fraction_of multiplier)
     pub trees : HasTreesBelow junction (junction.greatest_cycle + 1) forest
     pub closed : EachTreeOf junction (λ cycle. ClosesCycleFor junction all_lanes (target_beside p.cycle multiplier cycle) cycle) forest
     pub lean : EachTreeOf junction IsLeanForLeast forest
+    pub own_lean : EachTreeOf junction (λ cycle. IsLeanFor junction all_lanes (target_beside p.cycle multiplier cycle) cycle) forest
 
   -- each cycle below the plan's is closed for reaching the least
   pub record IsShortest (p : PlanView) (forest : List (List Node)) : Type 0 where

@@ -12,7 +12,7 @@ use Rattle.plan_model.specs.FittedPlan.{fitted_plan_of}
 use Rattle.plan_model.specs.SignalPlan.{PlanView}
 use Rattle.plan_model.specs.declared.fitted_plan.FittedPlan.{FittedPlan}
 use Rattle.cycle_orders.specs.Answer.{IsEnded, IsStopped, IsFirstPlan, plan_in}
-use Rattle.cycle_orders.specs.Forest.{IsGreatest, IsShortest, IsExhausted, IsStoppedAt, visited_in}
+use Rattle.cycle_orders.specs.Forest.{IsClosedBeside, IsShortest, IsExhausted, IsStoppedAt, visited_in}
 use Rattle.cycle_orders.specs.Joined.{IsJoined, next_search}
 use Rattle.cycle_orders.specs.JunctionAnswer.{IsPlanOf}
 use Rattle.cycle_orders.specs.declared.answer.Mode.{Mode}
@@ -51,11 +51,11 @@ StoppedLaw = (junction : JunctionView) (least : Ratio) (plan : Option PlanView) 
     IsStopped (next_search junction plan multiple cycle mode) nodes found → visited_in forest + visited_count nodes ≡ budget →
     IsStoppedAt junction least budget (later_plan plan (plan_in found)) (forest ++ nodes ∷ []) × (budget < cover_of junction) × IfSome found (IsPlanOf junction least)
 
--- behind the greatest cycle the best plan is the best of all
+-- behind the greatest cycle the best plan is the best of all, and each cycle is closed beside it
 abbrev pub GreatestLaw : Type 0
 GreatestLaw = (junction : JunctionView) (least : Ratio) (p : PlanView) (multiple : Ratio) (forest : List (List Node)) →
     IsJoined junction least (Some p) multiple (junction.greatest_cycle + 1) forest →
-    IsCapacityOptimal junction (fraction_of least) p × IsGreatest junction least p forest
+    IsCapacityOptimal junction (fraction_of least) p × IsClosedBeside junction least p multiple forest
 
 -- and where there is none, no plan meets the least
 abbrev pub ExhaustedLaw : Type 0

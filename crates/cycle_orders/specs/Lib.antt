@@ -2,6 +2,7 @@ pub mod Due
 pub mod Lean
 pub mod Search
 pub mod SearchedNodes
+pub mod Trimmed
 pub mod Answer
 pub mod Session
 pub mod Advances
@@ -10,6 +11,7 @@ pub mod Way
 pub mod Place
 pub mod Visited
 pub mod Standing
+pub mod Trimming
 pub mod Raised
 pub mod Forest
 pub mod Joined

@@ -1,5 +1,5 @@
 -- How a session stands.
-use Rattle.std.specs.Prelude.{ℕ, List, ◌++◌, Option, None, Some, length, take, ◌≡◌, ◌+◌, replicate, [], ◌∷◌, All}
+use Rattle.std.specs.Prelude.{ℕ, List, ◌++◌, Option, None, Some, length, take, ◌≡◌, ◌+◌, replicate}
 use Rattle.sig_base.specs.declared.target.Target.{Target}
 use Rattle.constraint_cycles.specs.Marks.{root_marks, Refines, IsDecided}
 use Rattle.constraint_cycles.specs.Starts.{MeetsOrder}
@@ -11,6 +11,7 @@ use Rattle.difference_system.specs.Solution.{AreLeastStarts, AreStartsWithin}
 use Rattle.least_greens.specs.ForTarget.{needs_of}
 use Rattle.plan_model.specs.declared.fitted_plan.FittedPlan.{FittedPlan}
 use Rattle.cycle_orders.specs.Answer.{IsFirstPlan, IsCarried, plan_in}
+use Rattle.cycle_orders.specs.DueItems.{AreDueItems}
 use Rattle.cycle_orders.specs.Place.{PlaceView}
 use Rattle.cycle_orders.specs.Search.{SearchView, IsRunning}
 use Rattle.cycle_orders.specs.SearchedNodes.{AreSearched}
@@ -25,10 +26,15 @@ module _ (s : SearchView) where
     pub counted : length (take count tree) ≡ count
 
   -- the place has the needs of the target
-  pub record IsPlaceFor (target : Target) (p : PlaceView) : Type 0 where
+  pub record HasNeedsOf (target : Target) (p : PlaceView) : Type 0 where
     pub conflicts : p.conflicts ≡ s.junction.conflicts
     pub lasts : p.cycle ≡ s.cycle
     pub needs : AgreeOnGroups s.junction.conflicts p.needs (needs_of s.junction s.lanes target s.cycle)
+
+  -- so it has, and goes down by the due items
+  pub record IsPlaceFor (target : Target) (p : PlaceView) : Type 0 where
+    pub asks : HasNeedsOf target p
+    pub due : AreDueItems s.junction.conflicts p.items
 
   -- the order decides each item, and these are its least starts for the needs of the target
   pub record AreStartsOfFullOrder (target : Target) (marks : List Mark) (starts : List ℕ) : Type 0 where

@@ -5,18 +5,22 @@
 //! meet is split at its due item. The due items are always the same ones in the same order: the pairs by their second
 //! group and then the first one, and behind them the links. So the first groups are in order among each other before the
 //! next one is looked at, and contradictions show early. A search is a session that can be cut between any two nodes.
+//!
+//! A tree that closes a cycle for a target may split more than it has to: `trim` closes what can be closed.
 #![tactic(auto)]
 
 mod answer;
-mod due;
+mod items;
 mod joined;
 mod junction_answer;
 mod laws;
+mod needs;
 mod order_search;
 mod place;
 mod question;
 mod raising;
 mod session;
+mod trimming;
 mod visit;
 
 pub use answer::{CycleAnswer, Mode, Progress};
@@ -25,3 +29,4 @@ pub use junction_answer::Answer;
 pub use laws::advances_law;
 pub use order_search::search;
 pub use session::Session;
+pub use trimming::trim;

@@ -1,9 +1,11 @@
-//! The place of a search: the orders that are still to come, and the difference system of the one at hand.
+//! The place of a search, or of a tree that is read: the orders that are still to come, and the difference system of the
+//! one at hand.
 //!
-//! The order at hand decides the first of the due items, as many as the place is deep, and is kept once: to go down a mark
-//! is set, to go back it is unset. Behind each mark that is First the order waits that has it Second. The closure stands
-//! one level higher until the order at hand is solved, since other needs may have closed the order above, and then a
-//! closure can't be taken further down: the walk that closes the order above closes all orders below it.
+//! The order at hand decides the first of the items, as many as the place is deep, and is kept once: to go down a mark is
+//! set, to go back it is unset. A search goes down by the due items; where a tree is read, its Splits name the items.
+//! Behind each mark that is First the order waits that has it Second. The closure stands one level higher until the order
+//! at hand is solved, since other needs may have closed the order above, and then a closure can't be taken further down:
+//! the walk that closes the order above closes all orders below it.
 ghost use Rattle.std.specs.Prelude.{◌≡◌, ◌≢◌, ◌≤◌, ◌<◌, ◌++◌, ◌∷◌, [], length, IfOk, IfSome, IsSome, MatchOption, MatchBool};
 ghost use Rattle.sig_base.specs.Times.{IsCycle};
 ghost use Rattle.conflict_matrix.specs.Conflicts.{matrix_of};
@@ -13,12 +15,13 @@ ghost use Rattle.constraint_cycles.specs.Order.{order_of, marks_of};
 ghost use Rattle.constraint_cycles.specs.Tree.{orders_below};
 ghost use Rattle.constraint_cycles.specs.declared.node.Node.TheVariants.{Split};
 ghost use Rattle.difference_system.specs.Solution.{AreLeastStarts, AreStartsWithin, IfStarts, IfWalk};
-ghost use Rattle.cycle_orders.specs.Due.{IsDue};
-ghost use Rattle.cycle_orders.specs.Place.{IsMoved, order_at, coming_later, MeetsHere, ClosesHere, with_needs};
+ghost use Rattle.cycle_orders.specs.Due.{IsDue, IsOpenItem};
+ghost use Rattle.cycle_orders.specs.DueItems.{AreDueItems};
+ghost use Rattle.cycle_orders.specs.Place.{IsMoved, order_at, coming_later, MeetsHere, ClosesHere, with_needs, with_items};
 ghost use Rattle.cycle_orders.specs.declared.place.Standing.TheVariants.{At};
 ghost use Rattle.cycle_orders.specs.Way.{IsWay, orders_along, orders_above, orders_waiting};
 
-use crate::due::DueItems;
+use crate::items::Items;
 use conflict_matrix::Conflicts;
 use constraint_cycles::{Mark, Order, Walk, growth_law, order_law};
 use difference_system::{Closure, Solved};
@@ -41,7 +44,7 @@ pub enum Standing {
 #[derive(Drop)]
 pub struct Place {
     closure: Closure,
-    items: DueItems,
+    items: Items,
     order: Order,
     depth: usize,
     standing: Standing,
@@ -61,7 +64,7 @@ impl Model for Place {
 }
 
 /// Goes on to the next order that waits, and answers whether there is one.
-fn turn(items: &DueItems, depth: &mut usize, order: &mut Order, closure: &mut Closure) -> bool
+fn turn(items: &Items, depth: &mut usize, order: &mut Order, closure: &mut Closure) -> bool
     requires made { IsOrderFor closure.old.conflicts (order_of order.old) }
     requires way { IsWay items.now closure.old.conflicts (marks_of order.old) depth.old }
     requires within { depth.old ≤ length items.now }
@@ -99,7 +102,7 @@ fn turn(items: &DueItems, depth: &mut usize, order: &mut Order, closure: &mut Cl
 }
 
 impl Place {
-    /// At the root order of the conflicts.
+    /// At the root order of the conflicts, with the due items.
     pub fn new(
         alloc: Global,
         conflicts: &Conflicts,
@@ -112,10 +115,11 @@ impl Place {
         ensures needs { IfOk result (λ p. p.needs ≡ needs.now) }
         ensures cycle { IfOk result (λ p. p.cycle ≡ cycle) }
         ensures coming { IfOk result (λ p. p.coming ≡ root_marks (matrix_of conflicts.now) ∷ []) }
+        ensures due { IfOk result (λ p. AreDueItems (matrix_of conflicts.now) p.items) }
     {
         Ok(Place {
             closure: Closure::new(alloc, conflicts, needs, cycle)?,
-            items: DueItems::of(conflicts),
+            items: Items::of(conflicts),
             order: Order::root(conflicts),
             depth: 0,
             standing: Standing::Above,
@@ -132,7 +136,8 @@ impl Place {
 
     /// The item to decide next; `None` exactly where the order at hand decides each item.
     pub fn due(&self) -> Option<usize>
-        requires { 1 ≤ length self.now.coming }
+        requires some { 1 ≤ length self.now.coming }
+        requires due { AreDueItems self.now.conflicts self.now.items }
         ensures value { result ≡ self.now.next }
         ensures due { MatchOption result (IsDecided (order_at self.now))
             (IsDue self.now.conflicts (order_at self.now)) }
@@ -203,6 +208,7 @@ impl Place {
     pub fn descend(&mut self)
         requires entered { self.old.standing ≡ At }
         requires next { IsSome self.old.next }
+        requires free { IfSome self.old.next (IsOpenItem (order_at self.old)) }
         ensures { IfSome self.old.next (λ item. IsMoved self.old self.new
             (orders_below (order_at self.old) (Split item) ++ coming_later self.old)) }
     {
@@ -213,6 +219,18 @@ impl Place {
         self.order.set(item, Mark::First);
         self.depth += 1;
         self.standing = Standing::Above;
+    }
+
+    /// Decides an open item in the same way, whichever was the next one.
+    pub fn decide(&mut self, item: u8)
+        requires entered { self.old.standing ≡ At }
+        requires free { IsOpenItem (order_at self.old) item }
+        ensures { IsMoved (with_items self.old self.new.items) self.new
+            (orders_below (order_at self.old) (Split item) ++ coming_later self.old) }
+    {
+        self.items.keep(self.depth);
+        self.items.push(item);
+        self.descend();
     }
 
     /// Goes on to the next order that waits, if there is one.

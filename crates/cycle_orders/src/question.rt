@@ -13,6 +13,7 @@ ghost use Rattle.cycle_orders.specs.Search.{IsSearchable, IsPlanFor};
 ghost use Rattle.cycle_orders.specs.Standing.{AreStartsOfFullOrder};
 
 use crate::answer::Mode;
+use crate::needs::needs;
 use conflict_matrix::pair_laws;
 use constraint_cycles::{agreeing_law, root_law};
 use least_greens::{NeedClosure, NeedRule, need_law, needs_law, plan_need_law};
@@ -64,14 +65,8 @@ impl<'j, F: Fn(Target, u32, usize) -> u32 + NeedClosure + Drop> Search<'j, F> {
         ensures range { AreNeeds self.now.junction.conflicts result }
         ensures long { length result ≡ 16 }
     {
-        needs_law();
-        let junction = self.rule.junction();
-        junction.rules();
-        let mut needs = [1; 16];
-        for group in 0..junction.groups().len() {
-            needs[group] = self.rule.ask(target, self.cycle, group);
-        }
-        needs
+        self.rule.junction().rules();
+        needs(&self.rule, target, self.cycle)
     }
 
     /// The plan of these starts, with the needs as greens.

@@ -1,5 +1,6 @@
 //! The visit of the order at hand: what was its unvisited node is Closed or Split.
 ghost use Rattle.std.specs.Prelude.{◌≡◌, ◌++◌, ◌∷◌, [], ◌<◌, ◌≤◌, length, IfOk, OnOk, OnErr};
+ghost use Rattle.cycle_orders.specs.DueItems.{AreDueItems};
 ghost use Rattle.cycle_orders.specs.Place.{IsMoved, ClosesHere};
 ghost use Rattle.cycle_orders.specs.Visited.{IsClosing, IsVisit};
 
@@ -49,6 +50,7 @@ pub fn close(place: &mut Place, tree: &mut Tree, count: usize, walk: Walk)
 pub fn visit(place: &mut Place, tree: &mut Tree, count: usize) -> Result<Visited, NoMemory>
     requires some { 1 ≤ length place.old.coming }
     requires within { count < length tree.old }
+    requires due { AreDueItems place.old.conflicts place.old.items }
     ensures visit { IfOk result (IsVisit place.old place.new tree.old tree.new count) }
     ensures stays { OnErr result (IsMoved place.old place.new place.old.coming) }
     ensures tree { OnErr result (tree.new ≡ tree.old) }

@@ -56,12 +56,20 @@ pub returns-in-Stopped-clause-plan : goal.returns-in-Stopped-clause-plan
 returns-in-Stopped-clause-plan g c =
     rw c.or.ensures (either_or (IsPlanOf c.args.junction.now c.args.least) c.in-Stopped.found c.loop-cycle.best (stopped g c).2 c.loop-cycle.invariant.plan)
 
+pub trim_beside-requires-clause-closed : goal.trim_beside-requires-clause-closed
+trim_beside-requires-clause-closed g c =
+    let start : c.least_cycle-cycle.result ≤ c.greatest_cycle-cycle-end.result + 1 = omega (arith, c.rules.ensures.cycles.ordered, c.least_cycle-cycle.ensures.value, c.greatest_cycle-cycle-end.ensures.value) in
+    let last : c.loop-cycle.cycle ≡ c.args.junction.now.greatest_cycle + 1 = omega (arith, c.loop-cycle-test.false, c.loop-cycle.auto.cycle-end start, c.greatest_cycle-cycle-end.ensures.value) in
+    let joined = at_last c.args.junction.now c.args.least c.loop-cycle.multiple c.loop-cycle.best c.in-Some-best.plan c.loop-cycle.cycle _ c.loop-cycle.forest c.in-Some-best.is last c.loop-cycle.invariant.joined in
+    rw c.new-rule.ensures.junction (c.args.least, (c.joined_law.ensures.greatest c.args.junction.now c.args.least (fitted_plan_of c.in-Some-best.plan) c.loop-cycle.multiple c.loop-cycle.forest joined).1)
+
 pub returns-in-Some-best-clause-greatest : goal.returns-in-Some-best-clause-greatest
 returns-in-Some-best-clause-greatest g c =
     let start : c.least_cycle-cycle.result ≤ c.greatest_cycle-cycle-end.result + 1 = omega (arith, c.rules.ensures.cycles.ordered, c.least_cycle-cycle.ensures.value, c.greatest_cycle-cycle-end.ensures.value) in
     let last : c.loop-cycle.cycle ≡ c.args.junction.now.greatest_cycle + 1 = omega (arith, c.loop-cycle-test.false, c.loop-cycle.auto.cycle-end start, c.greatest_cycle-cycle-end.ensures.value) in
     let joined = at_last c.args.junction.now c.args.least c.loop-cycle.multiple c.loop-cycle.best c.in-Some-best.plan c.loop-cycle.cycle _ c.loop-cycle.forest c.in-Some-best.is last c.loop-cycle.invariant.joined in
-    (c.joined_law.ensures.greatest c.args.junction.now c.args.least (fitted_plan_of c.in-Some-best.plan) c.loop-cycle.multiple c.loop-cycle.forest joined).1
+    let beside = (c.joined_law.ensures.greatest c.args.junction.now c.args.least (fitted_plan_of c.in-Some-best.plan) c.loop-cycle.multiple c.loop-cycle.forest joined).1 in
+    rw c.new-rule.ensures.junction at (c.in_ok-trimmed-in-Some-best.ensures c.args.least (rw c.new-rule.ensures.junction beside))
 
 pub returns-in-Some-best-clause-infeasible : goal.returns-in-Some-best-clause-infeasible
 returns-in-Some-best-clause-infeasible g c =

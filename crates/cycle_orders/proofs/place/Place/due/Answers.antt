@@ -7,11 +7,11 @@ use Rattle.cycle_orders.proofs.place.Place.due.Goals as goal
 pub returns-clause-due : goal.returns-clause-due
 returns-clause-due c =
     let s = c.self.inside in
-    let coming = at_hand s.items s.standing (marks_of s.order) s.depth (rw (← c.self.view_is) at c.requires) in
-    rw (← c.self.view_is) (rw coming (due_or_decided s.closure s.items (order_of s.order) s.depth s.standing c.self.invariant c.get.result (sym c.get.ensures.value)))
+    let coming = at_hand s.items s.standing (marks_of s.order) s.depth (rw (← c.self.view_is) at c.requires.some) in
+    rw (← c.self.view_is) (rw coming (due_or_decided s.closure s.items (order_of s.order) s.depth s.standing c.self.invariant (rw (← c.self.view_is) at c.requires.due) c.get.result (sym c.get.ensures.value)))
 
 pub returns-clause-below_root : goal.returns-clause-below_root
 returns-clause-below_root c =
     let s = c.self.inside in
-    let coming = at_hand s.items s.standing (marks_of s.order) s.depth (rw (← c.self.view_is) at c.requires) in
+    let coming = at_hand s.items s.standing (marks_of s.order) s.depth (rw (← c.self.view_is) at c.requires.some) in
     rw (← c.self.view_is) (rw coming (below_root s.closure.conflicts s.items (marks_of s.order) s.depth c.self.invariant.way))

@@ -40,7 +40,6 @@ invariant_of-self-2 c =
     let s = c.self.inside in
     let i = c.self.invariant in
     record {
-      due = rw c.insert.ensures i.due;
       made = rw c.insert.ensures i.made;
       within = i.within;
       way = rw c.insert.ensures i.way;

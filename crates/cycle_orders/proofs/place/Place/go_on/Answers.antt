@@ -3,9 +3,8 @@ use Rattle.cycle_orders.proofs.place.Place.go_on.Goals.{then-more, else-more}
 
 pub invariant_of-self : goal.invariant_of-self
 invariant_of-self c =
-    let i = c.self.invariant in
     let t = c.turn-more.ensures in
     elim c.if-more.branch [
-      | then-more w ↦ rw w.self-is (record { due = rw t.conflicts i.due; made = rw t.conflicts t.made; within = t.within; way = rw t.conflicts t.way; orders = t.above })
-      | else-more w ↦ rw w.self-is (record { due = rw t.conflicts i.due; made = rw t.conflicts t.made; within = t.within; way = rw t.conflicts t.way; orders = t.above })
+      | then-more w ↦ rw w.self-is (record { made = rw t.conflicts t.made; within = t.within; way = rw t.conflicts t.way; orders = t.above })
+      | else-more w ↦ rw w.self-is (record { made = rw t.conflicts t.made; within = t.within; way = rw t.conflicts t.way; orders = t.above })
     ]

@@ -1,7 +1,6 @@
-use Rattle.std.proofs.Common.{◌≡◌, ◌+◌, ◌<◌, ◌≤◌, length, sym, ap, ◌∙◌, arith}
+use Rattle.std.proofs.Common.{◌≤◌, length, sym, ap, ◌∙◌, arith}
 use Rattle.cycle_orders.specs.Answer.{plan_in}
 use Rattle.cycle_orders.specs.Place.{order_at}
-use Rattle.cycle_orders.specs.Standing.{IsOnTheWay}
 use Rattle.cycle_orders.proofs.Rising.{starts_of_full}
 use Rattle.cycle_orders.proofs.Standings.{left, on_the_way, carried_plan, some_coming, stands_on, stands_first, stands_best}
 use Rattle.cycle_orders.proofs.TargetOrders.{not_above_itself}
@@ -17,6 +16,13 @@ visit-requires-clause-some g c =
     let i = c.self.inside in
     let below = (left i.search i.search.mode i.target i.place i.tree i.count i.plan c.self.invariant).1 (rw (← c.self.view_is) at c.requires) in
     some_coming i.search i.target i.place i.tree i.count i.plan (on_the_way i.search i.search.mode i.target i.place i.tree i.count i.plan c.self.invariant below) below
+
+pub visit-requires-clause-due : goal.visit-requires-clause-due
+visit-requires-clause-due g c =
+    let i = c.self.inside in
+    let below = (left i.search i.search.mode i.target i.place i.tree i.count i.plan c.self.invariant).1 (rw (← c.self.view_is) at c.requires) in
+    let place = (on_the_way i.search i.search.mode i.target i.place i.tree i.count i.plan c.self.invariant below).place in
+    rw place.asks.conflicts place.due
 
 pub invariant_of-self-in_default : goal.invariant_of-self-in_default
 invariant_of-self-in_default g c =

@@ -1,7 +1,7 @@
 use Rattle.std.proofs.Common.{◌≤◌}
 use Rattle.conflict_matrix.specs.Conflicts.{matrix_of}
 use Rattle.cycle_orders.specs.DueItems.{AreFreePairsBelow}
-use Rattle.cycle_orders.proofs.due.DueItems.of.Given as goal
+use Rattle.cycle_orders.proofs.items.Items.of.Given as goal
 
 abbrev pub invariant-loop-group : goal.invariant-loop-group
 invariant-loop-group l = record {

@@ -2,8 +2,8 @@ use Rattle.std.proofs.Common.{◌≡◌, subst, arith}
 use Rattle.conflict_matrix.specs.Conflicts.{matrix_of}
 use Rattle.cycle_orders.specs.DueItems.{AreFreePairsBelow}
 use Rattle.cycle_orders.proofs.DueList.{few_pairs, pair_pushed, pair_skipped, rising_pair, row_done}
-use Rattle.cycle_orders.proofs.due.DueItems.push_pairs.Goals as goal
-use Rattle.cycle_orders.proofs.due.DueItems.push_pairs.Goals.{in-Some, in_default}
+use Rattle.cycle_orders.proofs.items.Items.push_pairs.Goals as goal
+use Rattle.cycle_orders.proofs.items.Items.push_pairs.Goals.{in-Some, in_default}
 
 pub push-requires : goal.push-requires
 push-requires c =

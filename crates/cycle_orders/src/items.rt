@@ -1,4 +1,4 @@
-ghost use Rattle.std.specs.Prelude.{◌≡◌, ◌+◌, ◌∷◌, ◌++◌, [], ◌<◌, ◌≤◌, length, IfSome, slice_get};
+ghost use Rattle.std.specs.Prelude.{◌≡◌, ◌+◌, ◌∷◌, ◌++◌, [], ◌<◌, ◌≤◌, length, IfSome, slice_get, take};
 ghost use Rattle.conflict_matrix.specs.Conflicts.{matrix_of};
 ghost use Rattle.cycle_orders.specs.DueItems.{AreDueItems, AreFreePairsBelow, AreOpenBelowLink};
 
@@ -8,15 +8,14 @@ use std::marker::Model;
 
 const MOST_ITEMS: usize = MOST_PAIRS + MOST_LINKS;
 
-/// The items that the root order leaves open, in the order in which a search decides them. Contracts see it as the list
-/// of their numbers.
+/// Items in the order in which they are decided. Contracts see it as the list of their numbers.
 #[derive(Drop)]
-pub struct DueItems {
+pub struct Items {
     items: [u8; MOST_ITEMS],
     count: usize,
 }
 
-impl Model for DueItems {
+impl Model for Items {
     ghost use Rattle.std.specs.Prelude.{ℕ, List, ◌≡◌, ◌≤◌, length, take};
 
     ghost Value = { List ℕ };
@@ -26,22 +25,31 @@ impl Model for DueItems {
     ghost invariant = { λ d. (d.count ≤ 132) × (length d.items ≡ 132) };
 }
 
-impl DueItems {
-    fn none() -> DueItems
+impl Items {
+    fn none() -> Items
         ensures { result ≡ [] }
     {
-        DueItems {
+        Items {
             items: [0; MOST_ITEMS],
             count: 0,
         }
     }
 
-    fn push(&mut self, item: u8)
+    /// One more item at the end.
+    pub fn push(&mut self, item: u8)
         requires { length self.old < 132 }
         ensures { self.new ≡ self.old ++ item ∷ [] }
     {
         self.items[self.count] = item;
         self.count += 1;
+    }
+
+    /// The first items, so many.
+    pub fn keep(&mut self, count: usize)
+        requires { count ≤ length self.old }
+        ensures { self.new ≡ take count self.old }
+    {
+        self.count = count;
     }
 
     /// The item of a number, or `None` past the last one.
@@ -83,13 +91,13 @@ impl DueItems {
         }
     }
 
-    /// The free pairs by their second group and then their first one, and behind them the links.
-    pub fn of(conflicts: &Conflicts) -> DueItems
+    /// The due items: the free pairs by their second group and then their first one, and behind them the links.
+    pub fn of(conflicts: &Conflicts) -> Items
         ensures { AreDueItems (matrix_of conflicts.now) result }
     {
         pair_laws();
         root_law();
-        let mut items = DueItems::none();
+        let mut items = Items::none();
         for group in 1..conflicts.groups() {
             items.push_pairs(conflicts, group);
         }

@@ -1,7 +1,7 @@
 use Rattle.std.proofs.Common.{◌≤◌}
 use Rattle.conflict_matrix.specs.Conflicts.{matrix_of}
 use Rattle.cycle_orders.specs.DueItems.{AreFreePairsBelow}
-use Rattle.cycle_orders.proofs.due.DueItems.push_pairs.Given as goal
+use Rattle.cycle_orders.proofs.items.Items.push_pairs.Given as goal
 
 abbrev pub invariant-loop-lower : goal.invariant-loop-lower
 invariant-loop-lower l = record {

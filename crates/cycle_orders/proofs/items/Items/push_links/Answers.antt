@@ -2,7 +2,7 @@ use Rattle.std.proofs.Common.{◌≡◌, ◌<◌, length, ap, subst, arith}
 use Rattle.conflict_matrix.specs.Conflicts.{matrix_of}
 use Rattle.cycle_orders.specs.DueItems.{AreOpenBelowLink}
 use Rattle.cycle_orders.proofs.DueList.{few_open, link_pushed, links_done, root_long}
-use Rattle.cycle_orders.proofs.due.DueItems.push_links.Goals as goal
+use Rattle.cycle_orders.proofs.items.Items.push_links.Goals as goal
 
 pub push-requires : goal.push-requires
 push-requires c =

@@ -2,7 +2,7 @@ use Rattle.std.proofs.Common.{◌≡◌, subst, arith}
 use Rattle.conflict_matrix.specs.Conflicts.{matrix_of}
 use Rattle.cycle_orders.specs.DueItems.{AreFreePairsBelow}
 use Rattle.cycle_orders.proofs.DueList.{none_yet, links_begun}
-use Rattle.cycle_orders.proofs.due.DueItems.of.Goals as goal
+use Rattle.cycle_orders.proofs.items.Items.of.Goals as goal
 
 pub loop-group-init : goal.loop-group-init
 loop-group-init c = record {
