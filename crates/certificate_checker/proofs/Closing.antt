@@ -11,7 +11,7 @@ use Rattle.constraint_cycles.specs.Closing.{Closes}
 use Rattle.constraint_cycles.specs.Edge.{longest_green}
 use Rattle.constraint_cycles.specs.Marks.{root_marks}
 use Rattle.constraint_cycles.specs.Walk.{IsWalk, IsPositiveCycle, sum_of}
-use Rattle.constraint_cycles.specs.Tree.{Leads, AllNodes, IsSound, IsVisited, ClosesCycle, orders_below}
+use Rattle.constraint_cycles.specs.Tree.{Leads, AllNodes, IsSound, IsVisited, IsWholeTree, ClosesCycle, orders_below}
 use Rattle.constraint_cycles.specs.declared.mark.Mark.{Mark}
 use Rattle.constraint_cycles.specs.declared.mark.Mark.TheVariants.{Open, First, Second}
 use Rattle.constraint_cycles.specs.declared.node.Node.{Node}
@@ -19,7 +19,7 @@ use Rattle.constraint_cycles.specs.declared.node.Node.TheVariants as node
 use Rattle.constraint_cycles.proofs.Visits.{leads_more}
 use Rattle.plan_certificate.specs.Ranges.{IsNodeAmong, IsWalkAmong}
 use Rattle.certificate_checker.specs.Basis.{BasisView, edges_of}
-use Rattle.certificate_checker.specs.TreeRules.{HasOrder, IsAt, LacksAnEdge, HasLowSum, IsOfServedGroup, NoneBreaks}
+use Rattle.certificate_checker.specs.TreeRules.{HasOrder, IsAt, LacksAnEdge, HasLowSum, IsOfServedGroup, BreaksAt, NoneBreaks}
 use Rattle.certificate_checker.specs.declared.rule.Rule.TheVariants.{Plan, Fit, Least, Cycles, Tree, Pair, Unvisited, Edge, Sum, Budget}
 use Rattle.certificate_checker.proofs.TreeRules.{one_rest, never_unvisited}
 
@@ -118,13 +118,15 @@ module _ (basis : BasisView) (marks : List Mark) where
       let alone : ClosesHere (served.group ∷ []) = subst ClosesHere served.alone closes in
       absurd (omega (arith, alone.1, served.served))
 
-module _ (basis : BasisView) (nodes : List Node) (tree : ClosesCycle basis.conflicts basis.needs basis.cycle nodes) where
+-- a whole tree of sound nodes breaks no rule but that of unvisited nodes
+module _ (basis : BasisView) (nodes : List Node) (whole : IsWholeTree basis.conflicts nodes)
+    (sound : AllNodes (IsSound basis.conflicts basis.needs basis.cycle) (root_marks basis.conflicts ∷ []) nodes) where
   abbrev IsOwn : List Mark → Node → Type 0
   IsOwn = IsSound basis.conflicts basis.needs basis.cycle
 
   own_sound : (place : ℕ) (marks : List Mark) (own : Node) → IsAt basis nodes place marks own → IsOwn marks own
   own_sound place marks own at =
-      let found = sound_at IsOwn (root_marks basis.conflicts ∷ []) nodes tree.sound place own at.there in
+      let found = sound_at IsOwn (root_marks basis.conflicts ∷ []) nodes sound place own at.there in
       let same = one_rest (root_marks basis.conflicts ∷ []) (take place nodes) _ _ found.2 at.order.leads in
       let marks_same : found.0 ≡ marks = cc in
       subst (λ ms. IsOwn ms own) marks_same found.3
@@ -132,27 +134,33 @@ module _ (basis : BasisView) (nodes : List Node) (tree : ClosesCycle basis.confl
   no_missing : (place : ℕ) (marks : List Mark) → length nodes ≤ place → HasOrder basis nodes place marks → ⊥
   no_missing place marks past o =
       let leads = rw (take_all place nodes past) at o.leads in
-      let same = one_rest (root_marks basis.conflicts ∷ []) nodes _ _ leads tree.whole in cc
+      let same = one_rest (root_marks basis.conflicts ∷ []) nodes _ _ leads whole in cc
 
   no_more : (place : ℕ) → place < length nodes → Leads (root_marks basis.conflicts ∷ []) (take place nodes) [] → ⊥
   no_more place within leads =
       let at = slice_get-get_or nodes place node.Unvisited within in
-      let found = sound_at IsOwn (root_marks basis.conflicts ∷ []) nodes tree.sound place (get_or nodes place node.Unvisited) at in
+      let found = sound_at IsOwn (root_marks basis.conflicts ∷ []) nodes sound place (get_or nodes place node.Unvisited) at in
       let same = one_rest (root_marks basis.conflicts ∷ []) (take place nodes) _ _ found.2 leads in cc
 
-  pub none_by_closing : basis.unfinished ≡ false → NoneBreaks basis nodes
-  none_by_closing finished Tree place (inl b) = no_missing place b.1.0 (omega (arith, b.0)) b.1.1
-  none_by_closing finished Tree place (inr b) = no_more place b.0 b.1
-  none_by_closing finished Pair place b = b.not_open (own_sound place b.marks (node.Split b.item) b.at_split)
-  none_by_closing finished Unvisited place (inl b) = never_unvisited nodes place tree.visited b.0
-  none_by_closing finished Unvisited place (inr (inl b)) = never_unvisited nodes b.before tree.visited b.unvisited
-  none_by_closing finished Unvisited place (inr (inr b)) = let stopped = b.stopped in cc
-  none_by_closing finished Edge place b = has_edges basis b.marks b.walk (own_sound place b.marks (node.Closed b.walk) b.at_closed) b.lacks
-  none_by_closing finished Sum place b =
+  pub none_by_sound : ((place : ℕ) → ¬ BreaksAt basis nodes Unvisited place) → NoneBreaks basis nodes
+  none_by_sound kept Tree place (inl b) = no_missing place b.1.0 (omega (arith, b.0)) b.1.1
+  none_by_sound kept Tree place (inr b) = no_more place b.0 b.1
+  none_by_sound kept Pair place b = b.not_open (own_sound place b.marks (node.Split b.item) b.at_split)
+  none_by_sound kept Unvisited place b = kept place b
+  none_by_sound kept Edge place b = has_edges basis b.marks b.walk (own_sound place b.marks (node.Closed b.walk) b.at_closed) b.lacks
+  none_by_sound kept Sum place b =
       let closes = own_sound place b.marks (node.Closed b.walk) b.at_closed in
       elim b.low [ inl low ↦ has_sum basis b.marks b.walk closes low | inr served ↦ not_served basis b.marks b.walk closes served ]
-  none_by_closing finished Plan place b = b
-  none_by_closing finished (Fit fault) place b = b
-  none_by_closing finished Least place b = b
-  none_by_closing finished Cycles place b = b
-  none_by_closing finished Budget place b = b
+  none_by_sound kept Plan place b = b
+  none_by_sound kept (Fit fault) place b = b
+  none_by_sound kept Least place b = b
+  none_by_sound kept Cycles place b = b
+  none_by_sound kept Budget place b = b
+
+none_unvisited : (basis : BasisView) (nodes : List Node) → All IsVisited nodes → basis.unfinished ≡ false → (place : ℕ) → ¬ BreaksAt basis nodes Unvisited place
+none_unvisited basis nodes visited finished place (inl b) = never_unvisited nodes place visited b.0
+none_unvisited basis nodes visited finished place (inr (inl b)) = never_unvisited nodes b.before visited b.unvisited
+none_unvisited basis nodes visited finished place (inr (inr b)) = let stopped = b.stopped in cc
+
+pub none_by_closing : (basis : BasisView) (nodes : List Node) → ClosesCycle basis.conflicts basis.needs basis.cycle nodes → basis.unfinished ≡ false → NoneBreaks basis nodes
+none_by_closing basis nodes tree finished = none_by_sound basis nodes tree.whole tree.sound (none_unvisited basis nodes tree.visited finished)

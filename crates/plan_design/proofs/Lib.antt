@@ -1,0 +1,7 @@
+mod NodeRanges
+mod StretchedTargets
+mod StoppedTrees
+mod OwnLean
+mod IsShown
+mod Ranges
+mod IsDesign
