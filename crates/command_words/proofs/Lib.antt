@@ -1,0 +1,4 @@
+mod Numeral
+mod LowestTerms
+mod Slash
+mod NoForm
