@@ -1,0 +1,6 @@
+mod ByPhase
+mod Timetable
+mod Safety
+mod Countdown
+mod Written
+mod Playing
