@@ -1,0 +1,5 @@
+mod Rising
+mod Parts
+mod States
+mod Drawn
+mod Table

@@ -1,0 +1,4 @@
+pub mod Draws
+pub mod Parts
+pub mod Conflicts
+pub mod Sample
