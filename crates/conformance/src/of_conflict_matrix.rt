@@ -1,6 +1,6 @@
-use crate::samples::links::{are_linkable, conflicts_of, link, linked};
-use crate::samples::{CHAIN, CROSSROADS};
 use conflict_matrix::{Link, LinkFault};
+use samples::links::{are_linkable, conflicts_of, link, linked};
+use samples::{CHAIN, CROSSROADS};
 use std::test::Fail;
 
 /// Pairs count by their lower groups, then by their higher ones: six of group 0, five of group 1, and
@@ -50,7 +50,7 @@ fn links_of_a_chain(rt: HostRuntime) -> Result<(), Fail> {
         assert_eq!(rt; conflicts.link(links).err(), *fault, "case {k}");
     }
     let both = [forth, link(1, 0, 0)];
-    let linked = linked(&rt, rt.alloc(), CHAIN, &both)?;
+    let linked = linked(rt.alloc(), CHAIN, &both)?;
     assert_eq!(rt; linked.links(), both.as_slice());
     Ok(())
 }

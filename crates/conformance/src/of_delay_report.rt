@@ -1,6 +1,6 @@
-use crate::samples::questions::is_cycle;
 use delay_report::{WideRatio, delay};
 use flow_model::Lane;
+use samples::questions::is_cycle;
 use sig_base::Label;
 use std::test::Fail;
 

@@ -1,14 +1,14 @@
 //! Least starts and closing walks, worked out from the definitions.
 mod closures;
 
-use crate::samples::links::{conflicts_of, link, linked};
-use crate::samples::orders::marked;
-use crate::samples::questions::are_asked;
-use crate::samples::{CHAIN, PAIR, RING};
 use conflict_matrix::Conflicts;
 use constraint_cycles::Mark::{First, Open, Second};
 use constraint_cycles::{Mark, Walk};
 use difference_system::{Solved, solve};
+use samples::links::{conflicts_of, link, linked};
+use samples::orders::marked;
+use samples::questions::are_asked;
+use samples::{CHAIN, PAIR, RING};
 use std::process::Abort;
 use std::test::Fail;
 
@@ -38,15 +38,16 @@ fn solution(rt: &impl Abort, want: Want) -> Solved {
     }
 }
 
-fn check(rt: &impl Abort, conflicts: &Conflicts, cases: &[Case]) {
+fn check(rt: &impl Abort, conflicts: &Conflicts, cases: &[Case]) -> Result<(), Fail> {
     for (k, case) in cases.iter().enumerate() {
         let (marks, needs, cycle, want) = *case;
-        let order = marked(rt, conflicts, marks);
+        let order = marked(conflicts, marks)?;
         let needs = filled(needs, 1);
         assert!(rt; are_asked(conflicts, &needs, cycle));
         let found = solve(conflicts, &order, &needs, cycle);
         assert_eq!(rt; found, solution(rt, want), "case {k}");
     }
+    Ok(())
 }
 
 /// The second one starts when the first one's need and an intergreen of 5 have passed, and both needs
@@ -64,8 +65,7 @@ fn two_groups(rt: HostRuntime) -> Result<(), Fail> {
             (&[], [7, 7, 1], 24, Want::Starts([0, 12, 0])),
             (&[], [7, 7, 1], 23, Want::Walk(&[0, 1])),
         ],
-    );
-    Ok(())
+    )
 }
 
 /// A step of the ring takes 10 + 3 seconds forth and 10 + 8 back: three fill a cycle of 39 or of 54. Forth
@@ -83,15 +83,14 @@ fn a_ring_of_three_groups(rt: HostRuntime) -> Result<(), Fail> {
             (&[Second], [10; 3], 54, Want::Starts([0, 36, 18])),
             (&[Open], [10; 3], 39, Want::Starts([0, 13, 18])),
         ],
-    );
-    Ok(())
+    )
 }
 
 /// The third group starts 10 seconds after the first one, and the second one 12 after the third: 10, 12
 /// and 12 fill a cycle of 34. The lowest group that no green serves closes alone.
 #[test]
 fn a_chain_with_a_link(rt: HostRuntime) -> Result<(), Fail> {
-    let conflicts = linked(&rt, rt.alloc(), CHAIN, &[link(0, 2, 10)])?;
+    let conflicts = linked(rt.alloc(), CHAIN, &[link(0, 2, 10)])?;
     check(
         &rt,
         &conflicts,
@@ -102,18 +101,16 @@ fn a_chain_with_a_link(rt: HostRuntime) -> Result<(), Fail> {
             (&[], [7, 301, 301], 300, Want::Walk(&[1])),
             (&[], [7, 300, 7], 300, Want::Walk(&[0, 1])),
         ],
-    );
-    Ok(())
+    )
 }
 
 /// A link of a whole number of cycles asks for no wait.
 #[test]
 fn a_link_of_two_cycles(rt: HostRuntime) -> Result<(), Fail> {
-    let conflicts = linked(&rt, rt.alloc(), CHAIN, &[link(0, 2, 60)])?;
+    let conflicts = linked(rt.alloc(), CHAIN, &[link(0, 2, 60)])?;
     check(
         &rt,
         &conflicts,
         &[(&[Second, First], [7; 3], 30, Want::Starts([0, 12, 0]))],
-    );
-    Ok(())
+    )
 }

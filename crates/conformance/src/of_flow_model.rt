@@ -1,5 +1,5 @@
-use crate::samples::questions::is_cycle;
 use flow_model::{Lane, effective, lane_multiplier, saturation};
+use samples::questions::is_cycle;
 use sig_base::{GroupTimes, Label, Ratio};
 use std::test::Fail;
 

@@ -6,8 +6,8 @@ mod maxima;
 mod printing;
 mod values;
 
-use crate::samples::texts::changed;
 use junction_files::{JunctionFault, fault_line, read};
+use samples::texts::changed;
 use std::alloc::Global;
 use std::process::Abort;
 use std::test::Fail;

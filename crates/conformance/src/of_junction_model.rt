@@ -1,5 +1,5 @@
-use crate::samples::{CROSSROADS, EARLY_START, PAIR, RING};
 use junction_files::read;
+use samples::{CROSSROADS, EARLY_START, PAIR, RING};
 use std::test::Fail;
 
 /// The nodes that the search trees of all cycles can have: one leaf at one cycle, 3 nodes at each of 22

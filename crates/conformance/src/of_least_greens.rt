@@ -4,12 +4,12 @@ ghost use Rattle.plan_model.specs.Fits.{group_count};
 ghost use Rattle.least_greens.specs.NeedOf.{need_of};
 ghost use Rattle.least_greens.specs.NeedClosure.{IsQuestion, Answers};
 
-use crate::samples::pair::{BUSY, FIRST_LANE, NO_LANES, QUIET, SATURATED, SECOND_LANE, pair};
-use crate::samples::questions::is_cycle;
 use junction_files::read;
 use junction_model::Junction;
 use least_greens::{NeedClosure, NeedRule, need, needs};
 use plan_model::ALL_LANES;
+use samples::pair::{BUSY, FIRST_LANE, NO_LANES, QUIET, SATURATED, SECOND_LANE, pair};
+use samples::questions::is_cycle;
 use sig_base::{LaneSet, Ratio, Target};
 use std::alloc::Global;
 use std::cell::Cell;

@@ -1,11 +1,11 @@
 mod maxima_and_links;
 
-use crate::samples::PAIR;
-use crate::samples::pair::{BUSY, COMMON, NO_LANES, QUIET, SATURATED, SECOND_LANE, Side, pair};
-use crate::samples::questions::has_each_group;
 use junction_files::read;
 use junction_model::Junction;
 use plan_model::{ALL_LANES, FittedPlan, Plan, PlanFault, multiplier, rotate};
+use samples::PAIR;
+use samples::pair::{BUSY, COMMON, NO_LANES, QUIET, SATURATED, SECOND_LANE, Side, pair};
+use samples::questions::has_each_group;
 use sig_base::{LaneSet, Ratio};
 use std::process::Abort;
 use std::test::Fail;

@@ -1,12 +1,11 @@
-use crate::samples::crossroads::{GREENS, STARTS};
-use crate::samples::pair::{COMMON, pair};
-use crate::samples::plans::fitted;
-use crate::samples::texts::changed;
-use crate::samples::{CROSSROADS, EARLY_START, PAIR};
 use junction_files::read;
 use junction_model::Junction;
 use plan_model::{ALL_LANES, FittedPlan, multiplier};
 use plan_stretch::stretch;
+use samples::crossroads::{GREENS, STARTS};
+use samples::pair::{COMMON, bounded_pair, pair};
+use samples::plans::fitted;
+use samples::{CROSSROADS, EARLY_START, PAIR};
 use sig_base::Ratio;
 use std::process::Abort;
 use std::test::Fail;
@@ -18,11 +17,11 @@ fn stretched<'j>(
     cycle: u32,
     starts: &[u32],
     greens: &[u32],
-) -> FittedPlan<'j> {
-    let longer = stretch(fitted(rt, junction, cycle, starts, greens));
+) -> Result<FittedPlan<'j>, Fail> {
+    let longer = stretch(fitted(junction, cycle, starts, greens)?);
     assert!(rt; longer.plan().cycle() == cycle);
     assert_eq!(rt; longer.plan().starts(), starts);
-    longer
+    Ok(longer)
 }
 
 /// The starts, and the greens as long as they can be: up to the other group's next start, less 5
@@ -42,7 +41,7 @@ const ROWS: [Row; 5] = [
 fn greens_of_two_groups(rt: HostRuntime) -> Result<(), Fail> {
     let junction = read(rt.alloc(), PAIR.as_bytes())?;
     for (starts, greens, want) in ROWS {
-        let longer = stretched(&rt, &junction, 60, &starts, &greens);
+        let longer = stretched(&rt, &junction, 60, &starts, &greens)?;
         assert_eq!(rt; longer.plan().greens(), want.as_slice(), "{starts:?}");
     }
     Ok(())
@@ -53,7 +52,7 @@ fn greens_of_two_groups(rt: HostRuntime) -> Result<(), Fail> {
 fn each_way_its_intergreen(rt: HostRuntime) -> Result<(), Fail> {
     let text = pair(rt.alloc(), (60, 60), COMMON, COMMON, (5, 8))?;
     let junction = read(rt.alloc(), text.as_bytes())?;
-    let longer = stretched(&rt, &junction, 60, &[0, 30], &[7, 7]);
+    let longer = stretched(&rt, &junction, 60, &[0, 30], &[7, 7])?;
     assert_eq!(rt; longer.plan().greens(), [25, 22].as_slice());
     Ok(())
 }
@@ -61,11 +60,9 @@ fn each_way_its_intergreen(rt: HostRuntime) -> Result<(), Fail> {
 /// A may be green for 20 seconds, though 25 are free.
 #[test]
 fn a_longest_green(rt: HostRuntime) -> Result<(), Fail> {
-    let alloc = rt.alloc();
-    let second = changed(alloc, PAIR, "version = 1", "version = 2")?;
-    let text = changed(alloc, &second, "gain = 0", "gain = 0\nmax_green = 20")?;
-    let junction = read(alloc, text.as_bytes())?;
-    let longer = stretched(&rt, &junction, 60, &[0, 30], &[7, 7]);
+    let text = bounded_pair(rt.alloc())?;
+    let junction = read(rt.alloc(), text.as_bytes())?;
+    let longer = stretched(&rt, &junction, 60, &[0, 30], &[7, 7])?;
     assert_eq!(rt; longer.plan().greens(), [20, 25].as_slice());
     Ok(())
 }
@@ -74,7 +71,7 @@ fn a_longest_green(rt: HostRuntime) -> Result<(), Fail> {
 #[test]
 fn an_early_start(rt: HostRuntime) -> Result<(), Fail> {
     let junction = read(rt.alloc(), EARLY_START.as_bytes())?;
-    let longer = stretched(&rt, &junction, 40, &[0, 23, 10], &[7, 7, 7]);
+    let longer = stretched(&rt, &junction, 40, &[0, 23, 10], &[7, 7, 7])?;
     assert_eq!(rt; longer.plan().greens(), [18, 12, 8].as_slice());
     Ok(())
 }
@@ -86,7 +83,7 @@ const LONGEST: [u32; 8] = [25, 25, 31, 30, 20, 19, 28, 17];
 #[test]
 fn greens_of_the_crossroads(rt: HostRuntime) -> Result<(), Fail> {
     let junction = read(rt.alloc(), CROSSROADS.as_bytes())?;
-    let longer = stretched(&rt, &junction, 90, &STARTS, &GREENS);
+    let longer = stretched(&rt, &junction, 90, &STARTS, &GREENS)?;
     assert_eq!(rt; longer.plan().greens(), LONGEST.as_slice());
     assert_eq!(rt; multiplier(&longer, ALL_LANES), Ratio::new(57, 56));
     Ok(())

@@ -1,8 +1,8 @@
-use crate::samples::crossroads::{GREENS, STARTS};
-use crate::samples::plans::fitted;
-use crate::samples::{CROSSROADS, PAIR};
 use junction_files::read;
 use plan_stretch::stretch;
+use samples::crossroads::{GREENS, STARTS};
+use samples::plans::fitted;
+use samples::{CROSSROADS, PAIR};
 use stage_builder::{Stage, stages};
 use std::process::Abort;
 use std::test::Fail;
@@ -36,7 +36,7 @@ const CASES: [Case; 3] = [
 fn stages_of_two_groups(rt: HostRuntime) -> Result<(), Fail> {
     let junction = read(rt.alloc(), PAIR.as_bytes())?;
     for (starts, greens, want) in CASES {
-        let plan = fitted(&rt, &junction, 60, &starts, &greens);
+        let plan = fitted(&junction, 60, &starts, &greens)?;
         let found = stages(rt.alloc(), &plan)?;
         check(&rt, found.items(), &want);
     }
@@ -71,7 +71,7 @@ const STRETCHED: [Row; 7] = [
 #[test]
 fn stages_before_and_after_a_stretch(rt: HostRuntime) -> Result<(), Fail> {
     let junction = read(rt.alloc(), CROSSROADS.as_bytes())?;
-    let plan = fitted(&rt, &junction, 90, &STARTS, &GREENS);
+    let plan = fitted(&junction, 90, &STARTS, &GREENS)?;
     let before = stages(rt.alloc(), &plan)?;
     check(&rt, before.items(), &STAGES);
     let after = stages(rt.alloc(), &stretch(plan))?;

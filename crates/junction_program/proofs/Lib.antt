@@ -1,4 +1,11 @@
-pub mod One
-pub mod TwoGroups
-pub mod PlanAt
-pub mod TopCall
+mod Endings
+mod Faults
+mod Held
+mod Accepted
+mod Spelled
+mod DesignRuns
+mod FileRuns
+mod CheckRuns
+mod PlayRuns
+mod SampleRuns
+mod CommandRuns

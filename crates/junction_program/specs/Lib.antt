@@ -1,6 +1,6 @@
-pub mod Words
-pub mod PlanLines
-pub mod Pair
-pub mod TwoGroups
-pub mod Run
+pub mod Runs
+pub mod Outcomes
+pub mod Steps
+pub mod Commands
 pub mod StatusNumber
+pub mod Headline

@@ -1,15 +1,23 @@
 //! What the program does: `run`, the top call, whose contract is what the program promises, and the
 //! statuses with which it ends.
+//!
+//! A command fetches its junction, and ends with its answer, which is put under a name, pushed, or both; or it is ended by
+//! a fault of the shelf or the sink, or by want of memory. How that may go is said once, for all commands (`Outcome`);
+//! what a command answers is said command by command.
 #![tactic(auto)]
 
-mod end_with;
-mod pair_search;
-mod plan_text;
-mod shortest;
+mod designing;
+mod ending;
+mod fetching;
+mod files;
+mod judging;
+mod junctions;
+mod playing;
+mod putting;
+mod sampling;
 mod status;
 mod top_call;
-mod two_groups;
-mod words;
 
+pub use command_words::{Command, read_words};
 pub use status::Status;
 pub use top_call::run;

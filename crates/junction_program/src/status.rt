@@ -10,7 +10,7 @@ pub enum Status {
     Infeasible,
     /// The search stopped at its budget.
     Stopped,
-    /// A certificate was refuted.
+    /// A certificate was refuted, or its plan, which was to be played, is missing or doesn't fit.
     Refuted,
     /// The words have no form of the command line.
     BadWords,
@@ -26,8 +26,6 @@ pub enum Status {
     Memory,
     /// A file is longer than its limit.
     TooLong,
-    /// The junction has more groups than the program can do yet.
-    Unbuilt,
 }
 
 impl Status {
@@ -47,7 +45,6 @@ impl Status {
             Status::SinkFailed => 8,
             Status::Memory => 9,
             Status::TooLong => 10,
-            Status::Unbuilt => 11,
         }
     }
 }

@@ -1,100 +1,108 @@
-ghost use Rattle.std.specs.Prelude.{◌≡◌, ◌<◌, ◌⊎◌, length, codes, None, IfSome};
-ghost use Rattle.std.specs.Io.KnownBytes.{Appends, Keeps};
-ghost use Rattle.sig_base.specs.Fraction.{over};
-ghost use Rattle.sig_base.specs.FaultCount.{Rose};
-ghost use Rattle.plan_model.specs.Claims.{IsInfeasible};
-ghost use Rattle.junction_program.specs.Words.{texts, junction_name_in};
-ghost use Rattle.junction_program.specs.Run.{OfFile, IfSpelled, IfRefused, PrintsShortest, PrintsInfeasible, PrintsRefusal, PrintsPart, IsTextOfRun, IsUnbuilt, ShelfHasCause, IsTooLong, OrPushFault, OrOutsideFault, IsOfCycle, IsAnswered};
+ghost use Rattle.std.specs.Prelude.{◌≡◌, None};
+ghost use Rattle.command_words.specs.Words.{texts, command_of};
+ghost use Rattle.junction_program.specs.Runs.{ran};
+ghost use Rattle.junction_program.specs.Outcomes.{Outcome, OrPushFault};
+ghost use Rattle.junction_program.specs.Commands.{answers_of, fetches_of, puts_of};
+ghost use Rattle.junction_program.specs.Headline.{IsCommandRun};
 
-use crate::end_with::end_with;
-use crate::shortest::solve;
+use crate::designing::design_plan;
+use crate::ending::refuse;
+use crate::judging::judge;
+use crate::playing::play;
+use crate::sampling::design_sample;
 use crate::status::Status;
-use crate::words::junction_name;
-use sig_base::{Shelf, ShelfFault, Sink};
+use aspect_player::safety_law;
+use certificate_checker::rules_law;
+use command_words::{Command, read_words};
+use junction_files::reading_laws;
+use plan_certificate::text_laws;
+use plan_design::Objective;
+use plan_model::fault_law;
+use report_text::Refusal;
+use sig_base::{Shelf, Sink};
 use std::alloc::Global;
 
-/// The most bytes of a junction file.
-const FILE_LIMIT: u32 = 1_048_576;
-
-/// Runs the command that the words spell: `cycle JUNCTION` reads a junction file of two groups and
-/// prints the plan of the shortest cycle that meets the flow multiple 1, or the line `infeasible`.
-pub fn run<S: Shelf, K: Sink>(alloc: Global, words: &[String], shelf: &mut S, out: &mut K) -> Status
-    // The printed plan is the shortest.
-    ensures done { result ≡ Status.Done → OfFile (texts words.now) (S.holds shelf.old)
-        (λ bytes. PrintsShortest bytes (K.written out.old) (K.written out.new)) }
-
-    // `infeasible` is the truth, and it is told, unless the run ends with 7 to 11.
-    ensures infeasible { result ≡ Status.Infeasible → OfFile (texts words.now) (S.holds shelf.old)
-        (λ bytes. PrintsInfeasible bytes (K.written out.old) (K.written out.new)) }
-    ensures infeasible_always { IfSpelled (texts words.now) (S.holds shelf.old)
-        (λ junction. IsInfeasible junction (over 1 1) →
-        (result ≡ Status.Infeasible) ⊎ OrOutsideFault Status.Unbuilt result) }
-
-    // Words of another form. This is told, unless the run ends with 8 or 9.
-    ensures bad_words { result ≡ Status.BadWords → junction_name_in (texts words.now) ≡ None }
-    ensures bad_words_always { junction_name_in (texts words.now) ≡ None →
-        OrPushFault Status.BadWords result }
-    ensures bad_words_unfetched { junction_name_in (texts words.now) ≡ None →
-        shelf.new ≡ shelf.old }
-    ensures bad_words_line { result ≡ Status.BadWords →
-        Appends (K.written out.old) (K.written out.new) (codes "bad words\n") }
-
-    // A file that spells no junction. This is told, unless the run ends with 7 to 10.
-    ensures bad_junction { result ≡ Status.BadJunction →
-        OfFile (texts words.now) (S.holds shelf.old)
-        (λ bytes. PrintsRefusal bytes (K.written out.old) (K.written out.new)) }
-    ensures bad_junction_always { IfRefused (texts words.now) (S.holds shelf.old)
-        (OrOutsideFault Status.BadJunction result) }
-
-    // A junction of more than two groups. This is told, unless the run ends with 7 to 10.
-    ensures unbuilt { result ≡ Status.Unbuilt → OfFile (texts words.now) (S.holds shelf.old)
-        (λ bytes. IsUnbuilt bytes (K.written out.old) (K.written out.new)) }
-    ensures unbuilt_always { IfSpelled (texts words.now) (S.holds shelf.old)
-        (λ junction. 2 < length junction.groups → OrOutsideFault Status.Unbuilt result) }
-    ensures unbuilt_completes { IfSpelled (texts words.now) (S.holds shelf.old)
-        (λ junction. 2 < length junction.groups → ¬ Rose (S.faults shelf.old) (S.faults shelf.new) →
-        (result ≡ Status.Unbuilt) ⊎ (result ≡ Status.Memory)) }
-
-    // A fault of the shelf.
-    ensures shelf_failed { result ≡ Status.ShelfFailed → ShelfHasCause (texts words.now)
-        (S.holds shelf.old) (S.faults shelf.old) (S.faults shelf.new) }
-    ensures shelf_failed_line { result ≡ Status.ShelfFailed →
-        Appends (K.written out.old) (K.written out.new) (codes "shelf failed\n") }
-
-    // A fault of the sink, which has got what it had and a prefix of the run's text.
-    ensures sink_failed { result ≡ Status.SinkFailed → Rose (K.faults out.old) (K.faults out.new) }
-    ensures sink_failed_part { result ≡ Status.SinkFailed →
-        PrintsPart (IsTextOfRun (texts words.now) (S.holds shelf.old)
-        (S.faults shelf.old) (S.faults shelf.new)) (K.written out.old) (K.written out.new) }
-
-    // Without memory nothing is printed.
-    ensures memory_silent { result ≡ Status.Memory → Keeps (K.written out.old) (K.written out.new) }
-
-    // A file longer than the limit. This is told, unless the run ends with 8 or 9.
-    ensures too_long { result ≡ Status.TooLong →
-        Rose (S.refusals shelf.old) (S.refusals shelf.new) }
-    ensures too_long_file { result ≡ Status.TooLong →
-        IfSome (S.holds shelf.old) (λ _. IsTooLong (texts words.now) (S.holds shelf.old)) }
-    ensures too_long_always { IsTooLong (texts words.now) (S.holds shelf.old) →
-        ¬ Rose (S.faults shelf.old) (S.faults shelf.new) → OrPushFault Status.TooLong result }
-    ensures too_long_line { result ≡ Status.TooLong →
-        Appends (K.written out.old) (K.written out.new) (codes "too long\n") }
-
-    ensures others { IsOfCycle result }
-    ensures same { S.holds shelf.new ≡ S.holds shelf.old }
-
-    // A junction file that is held and accepted is answered, unless a count of faults rose.
-    ensures completes { IfSpelled (texts words.now) (S.holds shelf.old)
-        (λ _. ¬ Rose (S.faults shelf.old) (S.faults shelf.new) →
-        ¬ Rose (K.faults out.old) (K.faults out.new) → IsAnswered result) }
+fn perform<S: Shelf, K: Sink>(alloc: Global, words: &[String], shelf: &mut S, out: &mut K) -> Status
+    ensures outcome { Outcome (answers_of (command_of (texts words.now)) (S.holds shelf.old))
+        (fetches_of (command_of (texts words.now)) (S.holds shelf.old))
+        (puts_of (command_of (texts words.now)) (S.holds shelf.old))
+        (ran S.holds S.faults S.refusals K.written K.faults
+        shelf.old shelf.new out.old out.new result) }
+    ensures unasked { command_of (texts words.now) ≡ None → shelf.new ≡ shelf.old }
 {
-    let Some(name) = junction_name(words) else {
-        return end_with(out, b"bad words\n", Status::BadWords);
-    };
-    match shelf.fetch(alloc, name, FILE_LIMIT) {
-        Ok(bytes) => solve(alloc, &bytes, out),
-        Err(ShelfFault::Failed) => end_with(out, b"shelf failed\n", Status::ShelfFailed),
-        Err(ShelfFault::TooLong) => end_with(out, b"too long\n", Status::TooLong),
-        Err(ShelfFault::Memory) => Status::Memory,
+    match read_words(words) {
+        Some(Command::Capacity(junction, certificate, least, budget)) => {
+            design_plan(
+                alloc,
+                Objective::Capacity,
+                junction,
+                certificate,
+                least,
+                budget,
+                shelf,
+                out,
+            )
+        }
+        Some(Command::Cycle(junction, certificate, least, budget)) => {
+            design_plan(
+                alloc,
+                Objective::Cycle,
+                junction,
+                certificate,
+                least,
+                budget,
+                shelf,
+                out,
+            )
+        }
+        Some(Command::Check(junction, certificate)) => {
+            judge(alloc, junction, certificate, shelf, out)
+        }
+        Some(Command::Play(junction, certificate, seconds)) => {
+            play(alloc, junction, certificate, seconds, shelf, out)
+        }
+        Some(Command::Sample(number, junction, certificate)) => {
+            design_sample(alloc, number, junction, certificate, shelf, out)
+        }
+        None => refuse(alloc, Refusal::BadWords, Status::BadWords, out),
     }
+}
+
+/// Runs the command that the words spell over a shelf of files and a sink:
+///
+/// - `capacity JUNCTION CERT [--least N/D] [--budget N]` designs a plan of the greatest reserve capacity, puts its
+///   certificate under CERT and pushes its report;
+/// - `cycle JUNCTION CERT [--least N/D] [--budget N]` does the same for a plan of the shortest cycle;
+/// - `check JUNCTION CERT` judges a certificate, and pushes the line of the verdict;
+/// - `play JUNCTION CERT SECONDS` plays its plan, and pushes what each head shows at each second;
+/// - `sample NUMBER JUNCTION CERT` makes a large junction from a number and puts it, designs a plan of it as `capacity`
+///   does, and pushes a summary.
+pub fn run<S: Shelf, K: Sink>(alloc: Global, words: &[String], shelf: &mut S, out: &mut K) -> Status
+    // What the statuses of the command mean: the plan that is put is the best of all, `infeasible` is the truth, a search
+    // stops only where its budget doesn't cover the junction, and the checker's yes is true of all plans, and
+    // what is played is safe.
+    ensures command { IsCommandRun (command_of (texts words.now))
+        (ran S.holds S.faults S.refusals K.written K.faults
+        shelf.old shelf.new out.old out.new result) }
+
+    // Words that spell no command. This is told, unless the run ends with 8 or 9, and nothing is asked of the shelf.
+    ensures bad_words { result ≡ Status.BadWords → command_of (texts words.now) ≡ None }
+    ensures bad_words_always { command_of (texts words.now) ≡ None →
+        OrPushFault Status.BadWords result }
+    ensures bad_words_unasked { command_of (texts words.now) ≡ None → shelf.new ≡ shelf.old }
+
+    // An answer is put and pushed whole; a fault of the shelf or the sink has its cause, and what was put and pushed
+    // before it is told; so it is where no memory could be had.
+    ensures outcome { Outcome (answers_of (command_of (texts words.now)) (S.holds shelf.old))
+        (fetches_of (command_of (texts words.now)) (S.holds shelf.old))
+        (puts_of (command_of (texts words.now)) (S.holds shelf.old))
+        (ran S.holds S.faults S.refusals K.written K.faults
+        shelf.old shelf.new out.old out.new result) }
+{
+    reading_laws();
+    text_laws();
+    rules_law();
+    fault_law();
+    safety_law();
+    perform(alloc, words, shelf, out)
 }

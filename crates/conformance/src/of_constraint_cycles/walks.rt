@@ -2,13 +2,13 @@ ghost use Rattle.conflict_matrix.specs.Conflicts.{matrix_of};
 ghost use Rattle.constraint_cycles.specs.Marks.{IsOrderFor};
 ghost use Rattle.constraint_cycles.specs.Order.{order_of};
 
-use crate::samples::links::{conflicts_of, link, linked};
-use crate::samples::orders::marked;
-use crate::samples::questions::{are_asked, are_below};
-use crate::samples::{CHAIN, PAIR, RING};
 use conflict_matrix::Conflicts;
 use constraint_cycles::Mark::{First, Open, Second};
 use constraint_cycles::{Mark, Order, Walk, closes, walk_sum};
+use samples::links::{conflicts_of, link, linked};
+use samples::orders::marked;
+use samples::questions::{are_asked, are_below};
+use samples::{CHAIN, PAIR, RING};
 use std::process::Abort;
 use std::test::Fail;
 
@@ -36,17 +36,18 @@ fn judged(
     )
 }
 
-fn check(rt: &impl Abort, conflicts: &Conflicts, cases: &[Case]) {
+fn check(rt: &impl Abort, conflicts: &Conflicts, cases: &[Case]) -> Result<(), Fail> {
     for (k, case) in cases.iter().enumerate() {
         let (marks, needs, cycle, groups, sum, closed) = *case;
         let [first, second, others] = needs;
-        let order = marked(rt, conflicts, marks);
+        let order = marked(conflicts, marks)?;
         let mut needs = [others; 16];
         needs[0] = first;
         needs[1] = second;
         let found = judged(rt, conflicts, &order, &needs, cycle, groups);
         assert_eq!(rt; found, (sum, closed), "case {k}");
     }
+    Ok(())
 }
 
 /// Both needs and both intergreens of 5, less the cycle. Only a need of 301 closes a walk of one group.
@@ -62,8 +63,7 @@ fn two_groups_there_and_back(rt: HostRuntime) -> Result<(), Fail> {
             (&[], [301, 7, 1], 60, &[0], None, true),
             (&[], [300, 7, 1], 60, &[0], None, false),
         ],
-    );
-    Ok(())
+    )
 }
 
 /// A step of the ring takes 10 + 3 seconds forth and 10 + 8 back: three forth are 39, three back 54, and
@@ -82,15 +82,14 @@ fn a_ring_of_three_groups(rt: HostRuntime) -> Result<(), Fail> {
             (&[Open], [10; 3], 30, &[0, 1], Some(1), true),
             (&[Open], [10; 3], 31, &[0, 1], Some(0), false),
         ],
-    );
-    Ok(())
+    )
 }
 
 /// The third group starts 10 seconds after the first one, or where the link is Second 23 before it. A
 /// green and an intergreen are 12: at cycle 33 the walks have 12 + 12 - 10, 10 + 12 + 12 - 33 and 0 + 23.
 #[test]
 fn a_chain_with_a_link(rt: HostRuntime) -> Result<(), Fail> {
-    let conflicts = linked(&rt, rt.alloc(), CHAIN, &[link(0, 2, 10)])?;
+    let conflicts = linked(rt.alloc(), CHAIN, &[link(0, 2, 10)])?;
     check(
         &rt,
         &conflicts,
@@ -104,14 +103,13 @@ fn a_chain_with_a_link(rt: HostRuntime) -> Result<(), Fail> {
             (&[], [7, 301, 301], 300, &[0], None, false),
             (&[], [7, 301, 7], 300, &[1], None, true),
         ],
-    );
-    Ok(())
+    )
 }
 
 /// A link of a whole number of cycles asks for no wait.
 #[test]
 fn a_link_of_two_cycles(rt: HostRuntime) -> Result<(), Fail> {
-    let conflicts = linked(&rt, rt.alloc(), CHAIN, &[link(0, 2, 60)])?;
+    let conflicts = linked(rt.alloc(), CHAIN, &[link(0, 2, 60)])?;
     check(
         &rt,
         &conflicts,
@@ -119,8 +117,7 @@ fn a_link_of_two_cycles(rt: HostRuntime) -> Result<(), Fail> {
             (&[Open, First], [7; 3], 30, &[0, 2], Some(0), false),
             (&[Open, Second], [7; 3], 30, &[0, 2], Some(30), true),
         ],
-    );
-    Ok(())
+    )
 }
 
 /// A link between groups that conflict: 12 there for the pair, and 11 back for the link at the most. A
@@ -128,7 +125,7 @@ fn a_link_of_two_cycles(rt: HostRuntime) -> Result<(), Fail> {
 /// where it is Second -23 there, 23 back.
 #[test]
 fn links_within_a_pair_and_to_group_0(rt: HostRuntime) -> Result<(), Fail> {
-    let conflicts = linked(&rt, rt.alloc(), CHAIN, &[link(2, 1, 11), link(2, 0, 10)])?;
+    let conflicts = linked(rt.alloc(), CHAIN, &[link(2, 1, 11), link(2, 0, 10)])?;
     check(
         &rt,
         &conflicts,
@@ -138,6 +135,5 @@ fn links_within_a_pair_and_to_group_0(rt: HostRuntime) -> Result<(), Fail> {
             (&[Open, Open, First], [7; 3], 33, &[0, 2], Some(10), true),
             (&[Open, Open, Second], [7; 3], 33, &[0, 2], Some(0), false),
         ],
-    );
-    Ok(())
+    )
 }

@@ -1,10 +1,10 @@
-use crate::samples::links::{conflicts_of, link, linked};
-use crate::samples::orders::marked;
-use crate::samples::questions::are_asked;
-use crate::samples::{CROSSROADS, PAIR};
 use conflict_matrix::Conflicts;
 use constraint_cycles::Mark::{First, Open, Second};
 use constraint_cycles::{Mark, weight};
+use samples::links::{conflicts_of, link, linked};
+use samples::orders::marked;
+use samples::questions::are_asked;
+use samples::{CROSSROADS, PAIR};
 use std::process::Abort;
 use std::test::Fail;
 
@@ -12,10 +12,10 @@ use std::test::Fail;
 /// their edge.
 type Case<'a> = (&'a [Mark], u32, u32, (usize, usize), Option<i64>);
 
-fn check(rt: &impl Abort, conflicts: &Conflicts, cases: &[Case]) {
+fn check(rt: &impl Abort, conflicts: &Conflicts, cases: &[Case]) -> Result<(), Fail> {
     for (k, case) in cases.iter().enumerate() {
         let (marks, need, cycle, (u, v), want) = *case;
-        let order = marked(rt, conflicts, marks);
+        let order = marked(conflicts, marks)?;
         let needs = [need; 16];
         assert!(rt; are_asked(conflicts, &needs, cycle));
         assert!(rt; u < conflicts.groups() && v < conflicts.groups());
@@ -25,6 +25,7 @@ fn check(rt: &impl Abort, conflicts: &Conflicts, cases: &[Case]) {
             "case {k}"
         );
     }
+    Ok(())
 }
 
 /// Group 0 is first of its pairs: from it the green and the intergreen, 7 + 5, and to it a cycle less.
@@ -39,7 +40,7 @@ fn weights_of_the_root(rt: HostRuntime) -> Result<(), Fail> {
             (&[], 7, 30, (0, 1), Some(12)),
             (&[], 7, 30, (1, 0), Some(-18)),
         ],
-    );
+    )?;
     check(
         &rt,
         &conflicts_of(rt.alloc(), CROSSROADS)?,
@@ -51,8 +52,7 @@ fn weights_of_the_root(rt: HostRuntime) -> Result<(), Fail> {
             (&[], 10, 90, (1, 7), None),
             (&[], 10, 90, (3, 3), None),
         ],
-    );
-    Ok(())
+    )
 }
 
 /// Two groups without a conflict, neither of them group 0. In cycles of 30 seconds a wait of 40 is one
@@ -61,7 +61,7 @@ fn weights_of_the_root(rt: HostRuntime) -> Result<(), Fail> {
 fn weights_of_a_link(rt: HostRuntime) -> Result<(), Fail> {
     check(
         &rt,
-        &linked(&rt, rt.alloc(), CROSSROADS, &[link(2, 3, 40)])?,
+        &linked(rt.alloc(), CROSSROADS, &[link(2, 3, 40)])?,
         &[
             (&[First], 7, 30, (2, 3), Some(10)),
             (&[First], 7, 30, (3, 2), Some(-10)),
@@ -69,6 +69,5 @@ fn weights_of_a_link(rt: HostRuntime) -> Result<(), Fail> {
             (&[Second], 7, 30, (3, 2), Some(20)),
             (&[Open], 7, 30, (2, 3), None),
         ],
-    );
-    Ok(())
+    )
 }

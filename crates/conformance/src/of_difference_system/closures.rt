@@ -10,12 +10,12 @@ ghost use Rattle.difference_system.specs.Closure.{top_of, decided, MeetsTop};
 ghost use Rattle.difference_system.specs.Solution.{IsSolvable};
 
 use crate::of_difference_system::{Want, filled, solution};
-use crate::samples::links::{conflicts_of, link, linked};
-use crate::samples::questions::{are_asked, are_below};
-use crate::samples::{CHAIN, CROSSROADS, RING, SIXTEEN};
 use conflict_matrix::Conflicts;
 use constraint_cycles::{Mark, Order, closes, order_law};
 use difference_system::{Closure, Solved, solve};
+use samples::links::{conflicts_of, link, linked};
+use samples::questions::{are_asked, are_below};
+use samples::{CHAIN, CROSSROADS, RING, SIXTEEN};
 use std::alloc::Global;
 use std::process::Abort;
 use std::test::Fail;
@@ -236,7 +236,7 @@ fn a_ring(rt: HostRuntime) -> Result<(), Fail> {
 #[test]
 fn a_chain_with_links(rt: HostRuntime) -> Result<(), Fail> {
     let links = [link(0, 2, 10), link(1, 2, 40), link(0, 1, 120)];
-    let conflicts = linked(&rt, rt.alloc(), CHAIN, &links)?;
+    let conflicts = linked(rt.alloc(), CHAIN, &links)?;
     for cycle in [24, 33, 40, 60, 120] {
         check(&rt, rt.alloc(), &conflicts, &[7; 16], &[12; 16], cycle, 4)?;
     }

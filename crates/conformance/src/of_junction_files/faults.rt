@@ -1,5 +1,5 @@
 use super::{Row, check};
-use crate::samples::PAIR;
+use samples::PAIR;
 use std::test::Fail;
 
 /// A fault of each kind.

@@ -1,5 +1,5 @@
 use super::answer;
-use crate::samples::PAIR;
+use samples::PAIR;
 use std::alloc::Global;
 use std::test::Fail;
 

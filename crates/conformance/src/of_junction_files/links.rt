@@ -1,5 +1,5 @@
 use super::{Row, answer, check};
-use crate::samples::{EARLY_START, PAIR, SIXTEEN};
+use samples::{EARLY_START, PAIR, SIXTEEN};
 use std::alloc::Global;
 use std::test::Fail;
 

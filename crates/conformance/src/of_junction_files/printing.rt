@@ -1,5 +1,5 @@
-use crate::samples::{CROSSROADS, EARLY_START, PAIR, RING};
 use junction_files::{print, read};
+use samples::{CROSSROADS, EARLY_START, PAIR, RING};
 use std::alloc::Global;
 use std::test::Fail;
 

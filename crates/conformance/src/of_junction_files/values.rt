@@ -1,5 +1,5 @@
 use super::{Row, check};
-use crate::samples::PAIR;
+use samples::PAIR;
 use std::alloc::Global;
 use std::process::Abort;
 use std::test::Fail;

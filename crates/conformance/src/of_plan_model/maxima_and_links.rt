@@ -1,8 +1,8 @@
-use crate::samples::EARLY_START;
-use crate::samples::questions::has_each_group;
 use junction_files::read;
 use junction_model::Junction;
 use plan_model::{FittedPlan, Plan, PlanFault, rotate};
+use samples::EARLY_START;
+use samples::questions::has_each_group;
 use std::process::Abort;
 use std::test::Fail;
 

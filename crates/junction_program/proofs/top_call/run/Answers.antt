@@ -1,9 +1,12 @@
-use Rattle.std.proofs.Common.{◌≡◌, ◌∙◌}
-use Rattle.junction_program.proofs.TopCall.{same_bytes, outside}
+use Rattle.junction_program.proofs.CommandRuns.{command_run, bad_words, bad_words_always}
 use Rattle.junction_program.proofs.top_call.run.Goals as goal
 
-pub returns-in-Ok-clause-bad_junction_always : goal.returns-in-Ok-clause-bad_junction_always
-returns-in-Ok-clause-bad_junction_always g c bytes kind place held refused =
-    let same : c.deref.result.now ≡ bytes =
-    c.deref.ensures.value ∙ same_bytes _ _ _ _ _ bytes c.in-Some.ensures held.named c.in-Ok.ensures.bytes held.holds in
-    outside _ _ (c.solve.ensures.decides.refused kind place (rw (same) refused))
+pub returns-clause-command : goal.returns-clause-command
+returns-clause-command g c =
+    command_run c.reading_laws.ensures.refusal c.reading_laws.ensures.one_junction c.text_laws.ensures.one_certificate c.text_laws.ensures.refusal c.rules_law.ensures c.fault_law.ensures c.safety_law.ensures _ _ c.perform.ensures.outcome
+
+pub returns-clause-bad_words : goal.returns-clause-bad_words
+returns-clause-bad_words g c = λ is. bad_words _ _ c.perform.ensures.outcome is
+
+pub returns-clause-bad_words_always : goal.returns-clause-bad_words_always
+returns-clause-bad_words_always g c = λ none. bad_words_always _ _ c.perform.ensures.outcome none

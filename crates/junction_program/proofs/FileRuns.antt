@@ -1,0 +1,168 @@
+-- What the answers of a command on a junction and a certificate show, whatever it does with them.
+use Rattle.std.proofs.Common.{ℕ, List, [], ◌≡◌, ◌≢◌, inl, inr, sym, ap, ◌∙◌, subst}
+use Rattle.std.specs.Prelude.{Option, None, Some, IfSome}
+use Rattle.sig_base.specs.Shelf.{Holdings, Lacks}
+use Rattle.junction_model.specs.Junction.{JunctionView}
+use Rattle.junction_files.specs.Laws.{RefusalLaw, OneJunctionLaw}
+use Rattle.junction_files.specs.declared.faults.Kind.{Kind}
+use Rattle.junction_files.specs.declared.faults.Place.{Place}
+use Rattle.plan_model.specs.Fits.{group_count}
+use Rattle.plan_certificate.specs.Certificate.{CertificateView}
+use Rattle.plan_certificate.specs.Laws as text
+use Rattle.plan_certificate.specs.Reads as spelling
+use Rattle.plan_certificate.specs.declared.fault.CertificateFault.{CertificateFault}
+use Rattle.plan_certificate.specs.declared.fault.CertificateFault.TheVariants as certificate_fault
+use Rattle.junction_program.specs.Runs.{Run, told, put_all, ShelfRose, SinkRose}
+use Rattle.junction_program.specs.Outcomes.{Answer, IsAnswered, IsFault, Gives, ExceedsFetched, HasPut, Outcome}
+use Rattle.junction_program.specs.Commands.{Accepts, IsOnFiles, FileAnswers, FetchesBoth, PutsNothing, junction_limit, certificate_limit}
+use Rattle.junction_program.specs.Headline.{Tells, HoldsRefused, HoldsBoth, AreRefusedByCause}
+use Rattle.junction_program.specs.declared.status.Status.{Status}
+use Rattle.junction_program.specs.declared.status.Status.TheVariants.{BadJunction, BadCertificate, Memory}
+use Rattle.junction_program.proofs.Accepted.{neither}
+use Rattle.junction_program.proofs.Endings.{not_lacking, put_nothing}
+use Rattle.junction_program.proofs.Faults.{answered_or_fault, told_always}
+use Rattle.junction_program.proofs.Held.{same_bytes, same_junction, not_refused}
+
+-- an answer on files has none of the statuses of refused ones, and puts nothing
+pub record IsOwnAnswer (answer : Answer) : Type 0 where
+  pub accepted : answer.status ≢ BadJunction
+  pub found : answer.status ≢ BadCertificate
+  pub puts : answer.puts ≡ []
+
+module _ (kind : JunctionView → CertificateView → Answer → Type 0) (own_answer : (junction : JunctionView) (c : CertificateView) (answer : Answer) → kind junction c answer → IsOwnAnswer answer)
+    (name certificate : List ℕ) (run : Run) (o : Outcome (FileAnswers kind (told run) name certificate) (FetchesBoth (told run) name certificate) PutsNothing run) where
+  abbrev pub Answered : Type 0
+  Answered = (answer : Answer) × IsOnFiles kind (told run) name certificate answer × Gives answer run
+
+  -- the answer behind a status that isn't that of a refused file
+  pub answer_behind : (status : Status) → run.status ≡ status → IsAnswered status → status ≢ BadJunction → status ≢ BadCertificate → Answered
+  answer_behind status is answered junction bad =
+      let x = o.answered (subst IsAnswered (sym is) answered) in
+      elim x.1 [
+        | inl y ↦ elim y [
+          | inl r ↦ absurd (junction (sym is ∙ x.2.status ∙ ap (λ (a : Answer). a.status) r.told))
+          | inr r ↦ absurd (bad (sym is ∙ x.2.status ∙ ap (λ (a : Answer). a.status) r.told))
+        ]
+        | inr own ↦ (x.0, own, x.2)
+      ]
+
+  own_of : (x : Answered) → IsOwnAnswer x.0
+  own_of x = own_answer x.1.junction x.1.certificate x.0 x.1.own
+
+  -- nothing is put, however the run ends
+  nothing_put : (answer : Answer) → FileAnswers kind (told run) name certificate answer → answer.puts ≡ []
+  nothing_put answer a = elim a [
+    | inl y ↦ elim y [ inl r ↦ ap (λ (x : Answer). x.puts) r.told | inr r ↦ ap (λ (x : Answer). x.puts) r.told ]
+    | inr own ↦ (own_answer own.junction own.certificate answer own.own).puts
+  ]
+
+  after_puts : (made : List (List ℕ × List ℕ)) → made ≡ [] → run.after.shelf.holds ≡ put_all (told run) made → run.after.shelf.holds ≡ told run
+  after_puts made none put = put ∙ ap (put_all (told run)) none ∙ sym (put_nothing (told run))
+
+  after_kept : HasPut PutsNothing run → run.after.shelf.holds ≡ told run
+  after_kept kept = after_puts kept.made kept.meant kept.put
+
+  pub same : run.after.shelf.holds ≡ told run
+  same = elim (answered_or_fault run.status) [
+    | inl answered ↦ (let x = o.answered answered in after_puts x.0.puts (nothing_put x.0 x.1) x.2.put)
+    | inr f ↦ elim f [
+      | inl e ↦ after_kept (o.shelf_failed e).0.kept
+      | inr g ↦ elim g [
+        | inl e ↦ elim (o.sink_failed e).1 [
+          | inl p ↦ after_puts p.answer.puts (nothing_put p.answer p.meant) p.put
+          | inr q ↦ elim q [ inl s ↦ after_kept s.0.kept | inr l ↦ l.0.same ]
+        ]
+        | inr h ↦ elim h [ inl e ↦ after_kept (o.memory e).0 | inr e ↦ (o.too_long e).0.same ]
+      ]
+    ]
+  ]
+
+  -- a fault of the outside, where both files are held and accepted and no count rose, is want of memory
+  pub no_fault : (junction : JunctionView) (c : CertificateView) → HoldsBoth (told run) name certificate junction c → ¬ ShelfRose run → ¬ SinkRose run → IsFault run.status → run.status ≡ Memory
+  no_fault junction c both shelf sink f = elim f [
+    | inl e ↦ elim (o.shelf_failed e).0.cause [
+      | inl r ↦ absurd (shelf r)
+      | inr l ↦ absurd (elim l.2 [
+        | inl g ↦ not_lacking (told run) name junction_limit both.held.accepted.bytes both.held.accepted.fetched (subst (Lacks (told run)) g.0 l.3)
+        | inr g ↦ not_lacking (told run) certificate certificate_limit both.found.bytes both.found.fetched (subst (Lacks (told run)) g.0 l.3)
+      ])
+    ]
+    | inr g ↦ elim g [
+      | inl e ↦ absurd (sink (o.sink_failed e).0)
+      | inr h ↦ elim h [ inl e ↦ e | inr e ↦ absurd (too_long (told run) both.held.tells (o.too_long e).0.cause) ]
+    ]
+  ]
+    where
+      too_long : (shelf : Option Holdings) → Tells shelf → IfSome shelf (λ _. ExceedsFetched (FetchesBoth (told run) name certificate) (told run)) → ⊥
+      too_long None tells h = tells
+      too_long (Some m) tells h = neither (told run) name certificate both.found.bytes junction both.held.accepted both.found.fetched h
+
+  module _ (refusal : RefusalLaw) (one : OneJunctionLaw) (certificate_refusal : text.RefusalLaw) where
+    -- a certificate that is found isn't refused
+    found_not : (junction own : JunctionView) (c : CertificateView) (refused : CertificateFault) (bytes : List ℕ) → own ≡ junction → spelling.Spells (group_count junction) bytes c →
+        spelling.IsRefusal (group_count own) bytes refused → refused ≡ certificate_fault.Memory
+    found_not junction own c refused bytes same spelled r = certificate_refusal (group_count junction) bytes c refused spelled (subst (λ j. spelling.IsRefusal (group_count j) bytes refused) same r)
+
+    -- the answer on files that are held and accepted
+    pub answer_on : text.OneCertificateLaw → (junction : JunctionView) (c : CertificateView) → HoldsBoth (told run) name certificate junction c → IsAnswered run.status →
+        (x : Answered) × (x.1.junction ≡ junction) × (x.1.certificate ≡ c)
+    answer_on one_certificate junction c both answered =
+        let x = o.answered answered in
+        elim x.1 [
+          | inl y ↦ elim y [
+            | inl r ↦ absurd (not_refused refusal (told run) name junction x.0 both.held.tells both.held.accepted r)
+            | inr r ↦ (
+                let same = same_junction one (told run) name r.junction junction both.held.tells r.accepted both.held.accepted in
+                let bytes : r.bytes ≡ both.found.bytes = same_bytes (told run) certificate certificate_limit certificate_limit r.bytes both.found.bytes both.held.tells r.fetched both.found.fetched in
+                absurd (r.not_memory (found_not junction r.junction c r.fault both.found.bytes same both.found.spelled (subst (λ b. spelling.IsRefusal (group_count r.junction) b r.fault) bytes r.refused))))
+          ]
+          | inr own ↦ (
+              let same = same_junction one (told run) name own.junction junction both.held.tells own.accepted both.held.accepted in
+              let bytes : own.found.bytes ≡ both.found.bytes = same_bytes (told run) certificate certificate_limit certificate_limit own.found.bytes both.found.bytes both.held.tells own.found.fetched both.found.fetched in
+              let spelled : spelling.Spells (group_count junction) both.found.bytes own.certificate = subst (λ k. spelling.Spells (group_count k) both.found.bytes own.certificate) same
+              (subst (λ b. spelling.Spells (group_count own.junction) b own.certificate) bytes own.found.spelled) in
+              ((x.0, own, x.2), same, one_certificate (group_count junction) both.found.bytes own.certificate c both.held.accepted.spelled.rules.groups.several spelled both.found.spelled))
+        ]
+
+    accepted_not : (bytes : List ℕ) (place_kind : Kind) (place : Place) → HoldsRefused (told run) name bytes place_kind place → (junction : JunctionView) → Accepts (told run) name junction → ⊥
+    accepted_not bytes place_kind place holds junction accepted =
+        let same : accepted.bytes ≡ bytes = same_bytes (told run) name junction_limit junction_limit accepted.bytes bytes holds.tells accepted.fetched holds.fetched in
+        refusal bytes junction place_kind place (rw same at accepted.spelled) holds.refused
+
+    pub refused_by_cause : AreRefusedByCause name certificate run
+    refused_by_cause = record {
+      junction = record {
+        bad_junction = λ is. let x = o.answered (subst IsAnswered (sym is) tt) in elim x.1 [
+          | inl y ↦ elim y [
+            | inl r ↦ (x.0, r, x.2)
+            | inr r ↦ (let bad : BadJunction ≡ BadCertificate = sym is ∙ x.2.status ∙ ap (λ (a : Answer). a.status) r.told in cc)
+          ]
+          | inr own ↦ absurd ((own_of (x.0, own, x.2)).accepted (sym x.2.status ∙ is))
+        ];
+        bad_junction_always = λ bytes place_kind place holds. told_always BadJunction run.status (λ answered. let x = o.answered answered in elim x.1 [
+          | inl y ↦ elim y [
+            | inl r ↦ x.2.status ∙ ap (λ (a : Answer). a.status) r.told
+            | inr r ↦ absurd (accepted_not bytes place_kind place holds r.junction r.accepted)
+          ]
+          | inr own ↦ absurd (accepted_not bytes place_kind place holds own.junction own.accepted)
+        ]);
+      };
+      bad_certificate = λ is. let x = o.answered (subst IsAnswered (sym is) tt) in elim x.1 [
+        | inl y ↦ elim y [
+          | inl r ↦ (let bad : BadCertificate ≡ BadJunction = sym is ∙ x.2.status ∙ ap (λ (a : Answer). a.status) r.told in cc)
+          | inr r ↦ (x.0, r, x.2)
+        ]
+        | inr own ↦ absurd ((own_of (x.0, own, x.2)).found (sym x.2.status ∙ is))
+      ];
+      bad_certificate_always = λ junction own_fault bad. told_always BadCertificate run.status (λ answered. let x = o.answered answered in elim x.1 [
+        | inl y ↦ elim y [
+          | inl r ↦ absurd (not_refused refusal (told run) name junction x.0 bad.held.tells bad.held.accepted r)
+          | inr r ↦ x.2.status ∙ ap (λ (a : Answer). a.status) r.told
+        ]
+        | inr own ↦ (
+            let same = same_junction one (told run) name own.junction junction bad.held.tells own.accepted bad.held.accepted in
+            let bytes : own.found.bytes ≡ bad.bytes = same_bytes (told run) certificate certificate_limit certificate_limit own.found.bytes bad.bytes bad.held.tells own.found.fetched bad.fetched in
+            absurd (bad.not_memory (found_not own.junction junction own.certificate own_fault bad.bytes (sym same)
+            (subst (λ b. spelling.Spells (group_count own.junction) b own.certificate) bytes own.found.spelled) bad.refused)))
+      ]);
+    }
