@@ -3,3 +3,4 @@ mod Parts
 mod States
 mod Drawn
 mod Table
+mod OneSample

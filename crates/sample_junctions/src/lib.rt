@@ -7,7 +7,9 @@ mod draws;
 mod groups;
 mod label;
 mod lanes;
+mod laws;
 mod pairs;
 mod sampling;
 
+pub use laws::sample_law;
 pub use sampling::sample;

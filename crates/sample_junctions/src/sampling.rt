@@ -44,5 +44,7 @@ pub fn sample(alloc: Global, number: u32) -> Result<Junction, NoMemory>
     let groups = groups(alloc, &mut draws, count)?;
     let lanes = lanes(alloc, &mut draws, count)?;
     let conflicts = conflicts(alloc, &mut draws, count, &groups)?;
-    Ok(Junction::new(title, LEAST_CYCLE, GREATEST_CYCLE, groups, lanes, conflicts))
+    let junction = Junction::new(title, LEAST_CYCLE, GREATEST_CYCLE, groups, lanes, conflicts);
+    junction.rules();
+    Ok(junction)
 }

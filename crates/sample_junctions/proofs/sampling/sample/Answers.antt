@@ -8,8 +8,8 @@ use Rattle.sample_junctions.proofs.sampling.sample.Goals as goal
 pub conflicts-requires-clause-groups : goal.conflicts-requires-clause-groups
 conflicts-requires-clause-groups c = rw (c.deref.ensures.value, c.in_ok-groups.ensures.groups) (are_groups_of_sample _ _)
 
-pub new-requires : goal.new-requires
-new-requires c =
+pub new-junction-requires : goal.new-junction-requires
+new-junction-requires c =
     let x = c.below-count.new.self.state in
     let n = 8 + c.below-count.result in
     let size : length c.in_ok-groups.groups.items ≡ n = rw c.in_ok-groups.ensures.groups (are_groups_of_sample x n).as_many in
@@ -30,7 +30,8 @@ returns c =
     rw (c.in_ok-groups.ensures.state, first, count) (state_after_both (first_state number) 1 (group_count number)) in
     let third : c.lanes.new.draws.state ≡ state_of number (1 + 5 * group_count number) =
     rw (c.in_ok-lanes.ensures.state, second, count) (state_after_lanes (first_state number) (group_count number)) in
-    rw c.new.ensures (record {
+    rw c.new-junction.ensures (record {
+      rules = rw c.new-junction.ensures at c.rules.ensures;
       title = c.in_ok-title.ensures;
       least_cycle = refl;
       greatest_cycle = refl;
