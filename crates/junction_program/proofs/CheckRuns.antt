@@ -18,8 +18,9 @@ use Rattle.junction_program.specs.Commands.{Judges, FileAnswers, FetchesBoth, Pu
 use Rattle.junction_program.specs.Headline.{ShowsVerdict, IsCheckRun}
 use Rattle.junction_program.specs.declared.status.Status.{Status}
 use Rattle.junction_program.specs.declared.status.Status.TheVariants.{Done, Stopped, Refuted, BadWords, BadJunction, BadCertificate, Memory}
-use Rattle.junction_program.proofs.Faults.{answered_or_fault, told_always}
-use Rattle.junction_program.proofs.FileRuns.{IsOwnAnswer, Answered, answer_behind, answer_on, same, no_fault, refused_by_cause}
+use Rattle.junction_program.proofs.Accepted.{both_held}
+use Rattle.junction_program.proofs.Faults.{answered_or_fault, told_always, no_fault}
+use Rattle.junction_program.proofs.FileRuns.{IsOwnAnswer, Answered, answer_behind, answer_on, same, refused_by_cause}
 
 -- the verdicts behind a status
 done_behind : (given : Verdict) → status_of_verdict given ≡ Done → given ≡ Proved
@@ -106,23 +107,23 @@ module _ (name certificate : List ℕ) (run : Run) (o : Outcome (FileAnswers Jud
             let x = judged_behind Refuted is tt (λ e. cc) (λ e. cc) in
             let e = refuted_behind x.1.own.given (behind Refuted is x) in
             (e.0, e.1, e.2, shows x (Broken e.0 e.1 e.2) e.3);
-        done_always = λ junction c both proves. told_always Done run.status (λ answered.
+        done_always = λ junction c both proves. told_always _ _ _ run o (both_held name certificate run junction c both) Done (λ answered.
             let x = verdict_on junction c both answered in
             let own : ProvesClaim x.0.1.junction x.0.1.certificate = subst (λ j. ProvesClaim j x.0.1.certificate) (sym x.1) (subst (ProvesClaim junction) (sym x.2) proves) in
             own_status x.0 ∙ ap status_of_verdict (x.0.1.own.proved.1 own));
-        stopped_always = λ junction c both claimed rules. told_always Stopped run.status (λ answered.
+        stopped_always = λ junction c both claimed rules. told_always _ _ _ run o (both_held name certificate run junction c both) Stopped (λ answered.
             let x = verdict_on junction c both answered in
             let own : BreaksNoRule x.0.1.junction x.0.1.certificate = subst (λ j. BreaksNoRule j x.0.1.certificate) (sym x.1) (subst (BreaksNoRule junction) (sym x.2) rules) in
             own_status x.0 ∙ ap status_of_verdict (x.0.1.own.partial.1 (ap (λ (k : CertificateView). k.claim) x.2 ∙ claimed, own)));
-        refuted_always = λ junction c rule cycle place both breaks. told_always Refuted run.status (λ answered.
+        refuted_always = λ junction c rule cycle place both breaks. told_always _ _ _ run o (both_held name certificate run junction c both) Refuted (λ answered.
             let x = verdict_on junction c both answered in
             let own : BreaksRule x.0.1.junction x.0.1.certificate rule cycle place =
             subst (λ j. BreaksRule j x.0.1.certificate rule cycle place) (sym x.1) (subst (λ k. BreaksRule junction k rule cycle place) (sym x.2) breaks) in
             own_status x.0 ∙ broken_refuted x.0.1.own.given x.0.1.junction x.0.1.certificate rule cycle place x.0.1.own.is own);
-        refused = refused_by_cause Judges own_answer name certificate run o refusal one certificate_refusal;
+        refused = refused_by_cause Judges own_answer name certificate run o refusal one;
         same = same Judges own_answer name certificate run o;
         completes = λ junction c both shelf sink. elim (answered_or_fault run.status) [
           | inl answered ↦ (let x = verdict_on junction c both answered in judged x.0.1.own.given run.status (own_status x.0))
-          | inr f ↦ inr (inr (inr (no_fault Judges own_answer name certificate run o junction c both shelf sink f)))
+          | inr f ↦ inr (inr (inr (no_fault _ _ _ run o (both_held name certificate run junction c both) shelf sink f)))
         ];
       }

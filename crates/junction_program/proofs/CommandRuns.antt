@@ -4,10 +4,11 @@ use Rattle.std.specs.Prelude.{Option, None, Some}
 use Rattle.sig_base.specs.Shelf.{Holdings}
 use Rattle.junction_files.specs.Laws.{RefusalLaw, OneJunctionLaw}
 use Rattle.plan_certificate.specs.Laws as text
-use Rattle.certificate_checker.specs.Laws.{RulesLaw}
+use Rattle.certificate_checker.specs.Laws.{RulesLaw, PartLaw}
 use Rattle.command_words.specs.Words.{CommandView, Capacity, Cycle, Check, Play, Sample}
 use Rattle.plan_model.specs.FirstFault.{FaultLaw}
 use Rattle.aspect_player.specs.Safe.{SafetyLaw}
+use Rattle.sample_junctions.specs.Sample.{SampleLaw}
 use Rattle.plan_design.specs.declared.objective.Objective.TheVariants as objective
 use Rattle.junction_program.specs.Runs.{Run, told}
 use Rattle.junction_program.specs.Outcomes.{Answer, IsAnswered, OrPushFault}
@@ -21,18 +22,18 @@ use Rattle.junction_program.proofs.CheckRuns.{check_run, not_of_verdict}
 use Rattle.junction_program.proofs.PlayRuns.{play_run, status_of_play}
 use Rattle.junction_program.proofs.SampleRuns.{sample_run}
 
-pub command_run : RefusalLaw → OneJunctionLaw → text.OneCertificateLaw → text.RefusalLaw → RulesLaw → FaultLaw → SafetyLaw → (found : Option CommandView) (run : Run) → EndsAs found run → IsCommandRun found run
-command_run refusal one one_certificate certificate_refusal rules faults safety None run o = tt
-command_run refusal one one_certificate certificate_refusal rules faults safety (Some (Capacity junction certificate least budget)) run o =
-    design_run objective.Capacity junction certificate least budget run o refusal one rules
-command_run refusal one one_certificate certificate_refusal rules faults safety (Some (Cycle junction certificate least budget)) run o =
-    design_run objective.Cycle junction certificate least budget run o refusal one rules
-command_run refusal one one_certificate certificate_refusal rules faults safety (Some (Check junction certificate)) run o =
+pub command_run : RefusalLaw → OneJunctionLaw → text.OneCertificateLaw → text.RefusalLaw → RulesLaw → PartLaw → FaultLaw → SafetyLaw → SampleLaw → (found : Option CommandView) (run : Run) → EndsAs found run → IsCommandRun found run
+command_run refusal one one_certificate certificate_refusal rules part faults safety samples None run o = tt
+command_run refusal one one_certificate certificate_refusal rules part faults safety samples (Some (Capacity junction certificate least budget)) run o =
+    design_run objective.Capacity junction certificate least budget run o refusal one rules part
+command_run refusal one one_certificate certificate_refusal rules part faults safety samples (Some (Cycle junction certificate least budget)) run o =
+    design_run objective.Cycle junction certificate least budget run o refusal one rules part
+command_run refusal one one_certificate certificate_refusal rules part faults safety samples (Some (Check junction certificate)) run o =
     check_run junction certificate run o refusal one one_certificate certificate_refusal
-command_run refusal one one_certificate certificate_refusal rules faults safety (Some (Play junction certificate seconds)) run o =
+command_run refusal one one_certificate certificate_refusal rules part faults safety samples (Some (Play junction certificate seconds)) run o =
     play_run junction certificate seconds run o refusal one one_certificate certificate_refusal faults safety
-command_run refusal one one_certificate certificate_refusal rules faults safety (Some (Sample number junction certificate)) run o =
-    sample_run number junction certificate run o rules
+command_run refusal one one_certificate certificate_refusal rules part faults safety samples (Some (Sample number junction certificate)) run o =
+    sample_run number junction certificate run o rules part samples
 
 -- no command answers that words are bad
 no_bad_words : (found : Option CommandView) (shelf : Option Holdings) (answer : Answer) → answers_of found shelf answer → answer.status ≡ BadWords → found ≡ None

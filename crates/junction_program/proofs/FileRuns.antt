@@ -1,27 +1,23 @@
 -- What the answers of a command on a junction and a certificate show, whatever it does with them.
 use Rattle.std.proofs.Common.{ℕ, List, [], ◌≡◌, ◌≢◌, inl, inr, sym, ap, ◌∙◌, subst}
-use Rattle.std.specs.Prelude.{Option, None, Some, IfSome}
-use Rattle.sig_base.specs.Shelf.{Holdings, Lacks}
 use Rattle.junction_model.specs.Junction.{JunctionView}
 use Rattle.junction_files.specs.Laws.{RefusalLaw, OneJunctionLaw}
-use Rattle.junction_files.specs.declared.faults.Kind.{Kind}
-use Rattle.junction_files.specs.declared.faults.Place.{Place}
 use Rattle.plan_model.specs.Fits.{group_count}
 use Rattle.plan_certificate.specs.Certificate.{CertificateView}
 use Rattle.plan_certificate.specs.Laws as text
 use Rattle.plan_certificate.specs.Reads as spelling
 use Rattle.plan_certificate.specs.declared.fault.CertificateFault.{CertificateFault}
 use Rattle.plan_certificate.specs.declared.fault.CertificateFault.TheVariants as certificate_fault
-use Rattle.junction_program.specs.Runs.{Run, told, put_all, ShelfRose, SinkRose}
-use Rattle.junction_program.specs.Outcomes.{Answer, IsAnswered, IsFault, Gives, ExceedsFetched, HasPut, Outcome}
-use Rattle.junction_program.specs.Commands.{Accepts, IsOnFiles, FileAnswers, FetchesBoth, PutsNothing, junction_limit, certificate_limit}
-use Rattle.junction_program.specs.Headline.{Tells, HoldsRefused, HoldsBoth, AreRefusedByCause}
+use Rattle.junction_program.specs.Runs.{Run, told, put_all}
+use Rattle.junction_program.specs.Outcomes.{Answer, IsAnswered, Gives, HasPut, Outcome}
+use Rattle.junction_program.specs.Commands.{IsOnFiles, FileAnswers, FetchesBoth, PutsNothing, certificate_limit}
+use Rattle.junction_program.specs.Headline.{HoldsBoth, AreRefusedByCause}
 use Rattle.junction_program.specs.declared.status.Status.{Status}
-use Rattle.junction_program.specs.declared.status.Status.TheVariants.{BadJunction, BadCertificate, Memory}
-use Rattle.junction_program.proofs.Accepted.{neither}
-use Rattle.junction_program.proofs.Endings.{not_lacking, put_nothing}
+use Rattle.junction_program.specs.declared.status.Status.TheVariants.{BadJunction, BadCertificate}
+use Rattle.junction_program.proofs.Accepted.{files_held, first_file_held}
+use Rattle.junction_program.proofs.Endings.{put_nothing}
 use Rattle.junction_program.proofs.Faults.{answered_or_fault, told_always}
-use Rattle.junction_program.proofs.Held.{same_bytes, same_junction, not_refused}
+use Rattle.junction_program.proofs.Held.{same_bytes, same_junction, not_refused, not_accepted}
 
 -- an answer on files has none of the statuses of refused ones, and puts nothing
 pub record IsOwnAnswer (answer : Answer) : Type 0 where
@@ -77,36 +73,16 @@ module _ (kind : JunctionView → CertificateView → Answer → Type 0) (own_an
     ]
   ]
 
-  -- a fault of the outside, where both files are held and accepted and no count rose, is want of memory
-  pub no_fault : (junction : JunctionView) (c : CertificateView) → HoldsBoth (told run) name certificate junction c → ¬ ShelfRose run → ¬ SinkRose run → IsFault run.status → run.status ≡ Memory
-  no_fault junction c both shelf sink f = elim f [
-    | inl e ↦ elim (o.shelf_failed e).0.cause [
-      | inl r ↦ absurd (shelf r)
-      | inr l ↦ absurd (elim l.2 [
-        | inl g ↦ not_lacking (told run) name junction_limit both.held.accepted.bytes both.held.accepted.fetched (subst (Lacks (told run)) g.0 l.3)
-        | inr g ↦ not_lacking (told run) certificate certificate_limit both.found.bytes both.found.fetched (subst (Lacks (told run)) g.0 l.3)
-      ])
-    ]
-    | inr g ↦ elim g [
-      | inl e ↦ absurd (sink (o.sink_failed e).0)
-      | inr h ↦ elim h [ inl e ↦ e | inr e ↦ absurd (too_long (told run) both.held.tells (o.too_long e).0.cause) ]
-    ]
-  ]
-    where
-      too_long : (shelf : Option Holdings) → Tells shelf → IfSome shelf (λ _. ExceedsFetched (FetchesBoth (told run) name certificate) (told run)) → ⊥
-      too_long None tells h = tells
-      too_long (Some m) tells h = neither (told run) name certificate both.found.bytes junction both.held.accepted both.found.fetched h
-
-  module _ (refusal : RefusalLaw) (one : OneJunctionLaw) (certificate_refusal : text.RefusalLaw) where
+  module _ (refusal : RefusalLaw) (one : OneJunctionLaw) where
     -- a certificate that is found isn't refused
-    found_not : (junction own : JunctionView) (c : CertificateView) (refused : CertificateFault) (bytes : List ℕ) → own ≡ junction → spelling.Spells (group_count junction) bytes c →
+    found_not : text.RefusalLaw → (junction own : JunctionView) (c : CertificateView) (refused : CertificateFault) (bytes : List ℕ) → own ≡ junction → spelling.Spells (group_count junction) bytes c →
         spelling.IsRefusal (group_count own) bytes refused → refused ≡ certificate_fault.Memory
-    found_not junction own c refused bytes same spelled r = certificate_refusal (group_count junction) bytes c refused spelled (subst (λ j. spelling.IsRefusal (group_count j) bytes refused) same r)
+    found_not law junction own c refused bytes same spelled r = law (group_count junction) bytes c refused spelled (subst (λ j. spelling.IsRefusal (group_count j) bytes refused) same r)
 
     -- the answer on files that are held and accepted
-    pub answer_on : text.OneCertificateLaw → (junction : JunctionView) (c : CertificateView) → HoldsBoth (told run) name certificate junction c → IsAnswered run.status →
+    pub answer_on : text.RefusalLaw → text.OneCertificateLaw → (junction : JunctionView) (c : CertificateView) → HoldsBoth (told run) name certificate junction c → IsAnswered run.status →
         (x : Answered) × (x.1.junction ≡ junction) × (x.1.certificate ≡ c)
-    answer_on one_certificate junction c both answered =
+    answer_on certificate_refusal one_certificate junction c both answered =
         let x = o.answered answered in
         elim x.1 [
           | inl y ↦ elim y [
@@ -114,7 +90,7 @@ module _ (kind : JunctionView → CertificateView → Answer → Type 0) (own_an
             | inr r ↦ (
                 let same = same_junction one (told run) name r.junction junction both.held.tells r.accepted both.held.accepted in
                 let bytes : r.bytes ≡ both.found.bytes = same_bytes (told run) certificate certificate_limit certificate_limit r.bytes both.found.bytes both.held.tells r.fetched both.found.fetched in
-                absurd (r.not_memory (found_not junction r.junction c r.fault both.found.bytes same both.found.spelled (subst (λ b. spelling.IsRefusal (group_count r.junction) b r.fault) bytes r.refused))))
+                absurd (r.not_memory (found_not certificate_refusal junction r.junction c r.fault both.found.bytes same both.found.spelled (subst (λ b. spelling.IsRefusal (group_count r.junction) b r.fault) bytes r.refused))))
           ]
           | inr own ↦ (
               let same = same_junction one (told run) name own.junction junction both.held.tells own.accepted both.held.accepted in
@@ -123,11 +99,6 @@ module _ (kind : JunctionView → CertificateView → Answer → Type 0) (own_an
               (subst (λ b. spelling.Spells (group_count own.junction) b own.certificate) bytes own.found.spelled) in
               ((x.0, own, x.2), same, one_certificate (group_count junction) both.found.bytes own.certificate c both.held.accepted.spelled.rules.groups.several spelled both.found.spelled))
         ]
-
-    accepted_not : (bytes : List ℕ) (place_kind : Kind) (place : Place) → HoldsRefused (told run) name bytes place_kind place → (junction : JunctionView) → Accepts (told run) name junction → ⊥
-    accepted_not bytes place_kind place holds junction accepted =
-        let same : accepted.bytes ≡ bytes = same_bytes (told run) name junction_limit junction_limit accepted.bytes bytes holds.tells accepted.fetched holds.fetched in
-        refusal bytes junction place_kind place (rw same at accepted.spelled) holds.refused
 
     pub refused_by_cause : AreRefusedByCause name certificate run
     refused_by_cause = record {
@@ -139,12 +110,12 @@ module _ (kind : JunctionView → CertificateView → Answer → Type 0) (own_an
           ]
           | inr own ↦ absurd ((own_of (x.0, own, x.2)).accepted (sym x.2.status ∙ is))
         ];
-        bad_junction_always = λ bytes place_kind place holds. told_always BadJunction run.status (λ answered. let x = o.answered answered in elim x.1 [
+        bad_junction_always = λ bad. told_always _ _ _ run o (first_file_held name certificate run bad) BadJunction (λ answered. let x = o.answered answered in elim x.1 [
           | inl y ↦ elim y [
             | inl r ↦ x.2.status ∙ ap (λ (a : Answer). a.status) r.told
-            | inr r ↦ absurd (accepted_not bytes place_kind place holds r.junction r.accepted)
+            | inr r ↦ absurd (not_accepted (told run) name bad r.junction r.accepted)
           ]
-          | inr own ↦ absurd (accepted_not bytes place_kind place holds own.junction own.accepted)
+          | inr own ↦ absurd (not_accepted (told run) name bad own.junction own.accepted)
         ]);
       };
       bad_certificate = λ is. let x = o.answered (subst IsAnswered (sym is) tt) in elim x.1 [
@@ -154,7 +125,7 @@ module _ (kind : JunctionView → CertificateView → Answer → Type 0) (own_an
         ]
         | inr own ↦ absurd ((own_of (x.0, own, x.2)).found (sym x.2.status ∙ is))
       ];
-      bad_certificate_always = λ junction own_fault bad. told_always BadCertificate run.status (λ answered. let x = o.answered answered in elim x.1 [
+      bad_certificate_always = λ junction bad. told_always _ _ _ run o (files_held name certificate run junction bad.bytes bad.held bad.fetched) BadCertificate (λ answered. let x = o.answered answered in elim x.1 [
         | inl y ↦ elim y [
           | inl r ↦ absurd (not_refused refusal (told run) name junction x.0 bad.held.tells bad.held.accepted r)
           | inr r ↦ x.2.status ∙ ap (λ (a : Answer). a.status) r.told
@@ -162,7 +133,7 @@ module _ (kind : JunctionView → CertificateView → Answer → Type 0) (own_an
         | inr own ↦ (
             let same = same_junction one (told run) name own.junction junction bad.held.tells own.accepted bad.held.accepted in
             let bytes : own.found.bytes ≡ bad.bytes = same_bytes (told run) certificate certificate_limit certificate_limit own.found.bytes bad.bytes bad.held.tells own.found.fetched bad.fetched in
-            absurd (bad.not_memory (found_not own.junction junction own.certificate own_fault bad.bytes (sym same)
-            (subst (λ b. spelling.Spells (group_count own.junction) b own.certificate) bytes own.found.spelled) bad.refused)))
+            absurd (bad.none own.certificate (subst (λ j. spelling.Spells (group_count j) bad.bytes own.certificate) same
+            (subst (λ b. spelling.Spells (group_count own.junction) b own.certificate) bytes own.found.spelled))))
       ]);
     }

@@ -1,13 +1,14 @@
 -- What a shelf that tells was asked for twice is the same both times.
-use Rattle.std.proofs.Common.{ℕ, List, ◌≡◌}
+use Rattle.std.proofs.Common.{ℕ, List, ◌≡◌, subst}
 use Rattle.std.specs.Prelude.{Option, None, Some}
 use Rattle.sig_base.specs.Shelf.{Holdings}
 use Rattle.junction_model.specs.Junction.{JunctionView}
 use Rattle.junction_files.specs.Laws.{RefusalLaw, OneJunctionLaw}
+use Rattle.junction_files.specs.Reads.{Spells}
 use Rattle.junction_program.specs.Outcomes.{Answer}
 use Rattle.junction_program.specs.Steps.{IsFetched}
 use Rattle.junction_program.specs.Commands.{RefusesJunction, Accepts, junction_limit}
-use Rattle.junction_program.specs.Headline.{Tells}
+use Rattle.junction_program.specs.Headline.{Tells, HoldsBadJunction}
 
 pub same_bytes : (shelf : Option Holdings) (name : List ℕ) (limit most : ℕ) (a b : List ℕ) → Tells shelf → IsFetched shelf name limit a → IsFetched shelf name most b → a ≡ b
 same_bytes None name limit most a b tells p q = absurd tells
@@ -23,3 +24,7 @@ pub not_refused : RefusalLaw → (shelf : Option Holdings) (name : List ℕ) (ju
 not_refused law shelf name junction answer tells accepts refuses =
     let same : refuses.bytes ≡ accepts.bytes = same_bytes shelf name junction_limit junction_limit refuses.bytes accepts.bytes tells refuses.fetched accepts.fetched in
     law accepts.bytes junction refuses.kind refuses.place accepts.spelled (rw same at refuses.refused)
+
+pub not_accepted : (shelf : Option Holdings) (name : List ℕ) → HoldsBadJunction shelf name → (junction : JunctionView) → Accepts shelf name junction → ⊥
+not_accepted shelf name bad junction accepts =
+    bad.none junction (subst (λ bytes. Spells bytes junction) (same_bytes shelf name junction_limit junction_limit accepts.bytes bad.bytes bad.tells accepts.fetched bad.fetched) accepts.spelled)

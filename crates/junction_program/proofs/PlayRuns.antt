@@ -16,8 +16,9 @@ use Rattle.junction_program.specs.Commands.{Plays, RefusesPlan, IsOnFiles, FileA
 use Rattle.junction_program.specs.Headline.{ShowsPlay, IsPlayRun}
 use Rattle.junction_program.specs.declared.status.Status.{Status}
 use Rattle.junction_program.specs.declared.status.Status.TheVariants.{Done, Refuted, BadJunction, BadCertificate}
-use Rattle.junction_program.proofs.Faults.{answered_or_fault, told_always}
-use Rattle.junction_program.proofs.FileRuns.{IsOwnAnswer, Answered, answer_behind, answer_on, same, no_fault, refused_by_cause}
+use Rattle.junction_program.proofs.Accepted.{both_held}
+use Rattle.junction_program.proofs.Faults.{answered_or_fault, told_always, no_fault}
+use Rattle.junction_program.proofs.FileRuns.{IsOwnAnswer, Answered, answer_behind, answer_on, same, refused_by_cause}
 
 refused_status : (junction : JunctionView) (c : CertificateView) (answer : Answer) → RefusesPlan junction c answer → answer.status ≡ Refuted
 refused_status junction c answer r = elim r [ inl x ↦ ap (λ (a : Answer). a.status) x.1 | inr x ↦ ap (λ (a : Answer). a.status) x.4 ]
@@ -97,12 +98,12 @@ module _ (name certificate : List ℕ) (seconds : ℕ) (run : Run) (o : Outcome 
       record {
         done = λ is. played safety (behind Done is tt (λ e. cc) (λ e. cc)) is;
         refuted = λ is. refuted (behind Refuted is tt (λ e. cc) (λ e. cc)) is;
-        done_always = λ junction c plan both is fits. told_always Done run.status (λ answered. let x = on junction c both answered in done_on faults junction c plan x.0 x.1 x.2 is fits);
-        refuted_always = λ junction c both none. told_always Refuted run.status (λ answered. let x = on junction c both answered in refuted_on junction c x.0 x.1 x.2 none);
-        refused = refused_by_cause (Plays seconds) (own_answer seconds) name certificate run o refusal one certificate_refusal;
+        done_always = λ junction c plan both is fits. told_always _ _ _ run o (both_held name certificate run junction c both) Done (λ answered. let x = on junction c both answered in done_on faults junction c plan x.0 x.1 x.2 is fits);
+        refuted_always = λ junction c both none. told_always _ _ _ run o (both_held name certificate run junction c both) Refuted (λ answered. let x = on junction c both answered in refuted_on junction c x.0 x.1 x.2 none);
+        refused = refused_by_cause (Plays seconds) (own_answer seconds) name certificate run o refusal one;
         same = same (Plays seconds) (own_answer seconds) name certificate run o;
         completes = λ junction c both shelf sink. elim (answered_or_fault run.status) [
           | inl answered ↦ (let x = on junction c both answered in elim (status_of_play seconds x.0.1.junction x.0.1.certificate x.0.0 x.0.1.own) [ inl e ↦ inl (x.0.2.status ∙ e) | inr e ↦ inr (inl (x.0.2.status ∙ e)) ])
-          | inr f ↦ inr (inr (no_fault (Plays seconds) (own_answer seconds) name certificate run o junction c both shelf sink f))
+          | inr f ↦ inr (inr (no_fault _ _ _ run o (both_held name certificate run junction c both) shelf sink f))
         ];
       }

@@ -5,7 +5,8 @@ use Rattle.sig_base.specs.Ratio.{fraction_of}
 use Rattle.sig_base.specs.Shelf.{Holdings}
 use Rattle.sig_base.specs.declared.ratio.Ratio.{Ratio}
 use Rattle.junction_model.specs.Junction.{JunctionView}
-use Rattle.junction_files.specs.Reads.{Spells, IsRefusal}
+use Rattle.junction_files.specs.Printing.{file_members}
+use Rattle.junction_files.specs.Reads.{IsDocument, Spells, IsRefusal}
 use Rattle.junction_files.specs.Line.{fault_line_of}
 use Rattle.junction_files.specs.declared.faults.Kind.{Kind}
 use Rattle.junction_files.specs.declared.faults.Place.{Place}
@@ -74,15 +75,21 @@ status_of_claim claim.Cycle = Done
 status_of_claim claim.Infeasible = Infeasible
 status_of_claim claim.Stopped = Stopped
 
+-- the certificate of a design of the junction for this least and this budget; its text reads back as the same certificate
+pub record IsAskedDesign (junction : JunctionView) (objective : Objective) (least : Fraction) (budget : ℕ) (c : CertificateView) :
+    Type 0 where
+  pub asked : Ratio
+  pub least_is : fraction_of asked ≡ least
+  pub design : IsDesign junction objective asked budget c
+  pub read_back : spelling.Spells (group_count junction) (text_of c) c
+
 -- the certificate of a design is put, and its report pushed
-pub record Designs (shelf : Option Holdings) (junction_name certificate_name : List ℕ) (objective : Objective) (least : Fraction) (budget : ℕ) (answer : Answer) : Type 0 where
+pub record Designs (shelf : Option Holdings) (junction_name certificate_name : List ℕ) (objective : Objective)
+    (least : Fraction) (budget : ℕ) (answer : Answer) : Type 0 where
   pub junction : JunctionView
   pub accepted : Accepts shelf junction_name junction
   pub certificate : CertificateView
-  pub asked : Ratio
-  pub least_is : fraction_of asked ≡ least
-  pub design : IsDesign junction objective asked budget certificate
-  pub read_back : spelling.Spells (group_count junction) (text_of certificate) certificate
+  pub made : IsAskedDesign junction objective least budget certificate
   pub status : answer.status ≡ status_of_claim certificate.claim
   pub report : IsReport junction certificate answer.text
   pub puts : answer.puts ≡ (certificate_name, text_of certificate) ∷ []
@@ -133,14 +140,16 @@ plan_refused junction c rule = only_text Refuted (verdict_line junction c.claim 
 -- there is no plan, or it doesn't fit, and the line tells its first fault
 abbrev pub RefusesPlan : JunctionView → CertificateView → Answer → Type 0
 RefusesPlan junction c answer = ((c.plan ≡ None) × (answer ≡ plan_refused junction c rule.Plan))
-    ⊎ ((plan : PlanView) × (fault : PlanFault) × (c.plan ≡ Some plan) × IsFirstFault junction plan fault × (answer ≡ plan_refused junction c (rule.Fit fault)))
+    ⊎ ((plan : PlanView) × (fault : PlanFault) × (c.plan ≡ Some plan) × IsFirstFault junction plan fault
+    × (answer ≡ plan_refused junction c (rule.Fit fault)))
 
 -- the plan of the certificate is played for so many seconds
 abbrev pub Plays : ℕ → JunctionView → CertificateView → Answer → Type 0
 Plays seconds junction c answer = PlaysPlan seconds junction c answer ⊎ RefusesPlan junction c answer
 
 -- the answer is one of this kind on the junction and the certificate that lie under the names
-pub record IsOnFiles (kind : JunctionView → CertificateView → Answer → Type 0) (shelf : Option Holdings) (junction_name certificate_name : List ℕ) (answer : Answer) : Type 0 where
+pub record IsOnFiles (kind : JunctionView → CertificateView → Answer → Type 0) (shelf : Option Holdings)
+    (junction_name certificate_name : List ℕ) (answer : Answer) : Type 0 where
   pub junction : JunctionView
   pub accepted : Accepts shelf junction_name junction
   pub certificate : CertificateView
@@ -158,7 +167,8 @@ RefusesFiles shelf junction certificate answer = RefusesJunction shelf junction 
 
 -- what a command on two files may answer
 abbrev pub FileAnswers : (JunctionView → CertificateView → Answer → Type 0) → Option Holdings → List ℕ → List ℕ → Answer → Type 0
-FileAnswers kind shelf junction certificate answer = RefusesFiles shelf junction certificate answer ⊎ IsOnFiles kind shelf junction certificate answer
+FileAnswers kind shelf junction certificate answer =
+    RefusesFiles shelf junction certificate answer ⊎ IsOnFiles kind shelf junction certificate answer
 
 -- a design fetches the junction
 abbrev pub FetchesJunction : List ℕ → List ℕ → ℕ → Type 0
@@ -167,7 +177,8 @@ FetchesJunction junction name limit = (name ≡ junction) × (limit ≡ junction
 -- a command on both files fetches the junction, and beside one that is accepted the certificate
 abbrev pub FetchesBoth : Option Holdings → List ℕ → List ℕ → List ℕ → ℕ → Type 0
 FetchesBoth shelf junction certificate name limit =
-    FetchesJunction junction name limit ⊎ ((name ≡ certificate) × (limit ≡ certificate_limit) × ((own : JunctionView) × Accepts shelf junction own))
+    FetchesJunction junction name limit
+    ⊎ ((name ≡ certificate) × (limit ≡ certificate_limit) × ((own : JunctionView) × Accepts shelf junction own))
 
 -- a design puts nothing, or its certificate
 abbrev pub PutsDesign : Option Holdings → List ℕ → List ℕ → Objective → Fraction → ℕ → List (List ℕ × List ℕ) → Type 0
@@ -180,10 +191,7 @@ PutsNothing made = made ≡ []
 -- the certificate of a sample is put, and its summary pushed
 pub record CertifiesSample (number : ℕ) (junction : JunctionView) (certificate_name : List ℕ) (answer : Answer) : Type 0 where
   pub certificate : CertificateView
-  pub asked : Ratio
-  pub least_is : fraction_of asked ≡ default_least
-  pub design : IsDesign junction objective.Capacity asked default_budget certificate
-  pub read_back : spelling.Spells (group_count junction) (text_of certificate) certificate
+  pub made : IsAskedDesign junction objective.Capacity default_least default_budget certificate
   pub status : answer.status ≡ status_of_claim certificate.claim
   pub summary : IsSummary number junction certificate answer.text
   pub puts : answer.puts ≡ (certificate_name, text_of certificate) ∷ []
@@ -192,10 +200,11 @@ abbrev pub PutsCertificate : ℕ → JunctionView → List ℕ → List (List �
 PutsCertificate number junction certificate_name made =
     (made ≡ []) ⊎ ((answer : Answer) × CertifiesSample number junction certificate_name answer × (made ≡ answer.puts))
 
--- the bytes spell the sample junction of the number
+-- the bytes are the printed file of the sample junction of the number, and spell it
 pub record SpellsSample (number : ℕ) (junction : JunctionView) (bytes : List ℕ) : Type 0 where
   pub sample : IsSample number junction
   pub spelled : Spells bytes junction
+  pub printed : IsDocument bytes (file_members junction)
 
 -- the file of the sample is put, then its certificate, and its summary pushed
 pub record Samples (number : ℕ) (junction_name certificate_name : List ℕ) (answer : Answer) : Type 0 where
@@ -228,7 +237,7 @@ answers_of (Some (Play junction certificate seconds)) shelf answer = FileAnswers
 answers_of (Some (Sample number junction certificate)) shelf answer = Samples number junction certificate answer
 
 abbrev pub fetches_of : Option CommandView → Option Holdings → List ℕ → ℕ → Type 0
-fetches_of None shelf name limit = ⊥
+fetches_of None shelf name limit = FetchesNothing name limit
 fetches_of (Some (Capacity junction certificate least budget)) shelf name limit = FetchesJunction junction name limit
 fetches_of (Some (Cycle junction certificate least budget)) shelf name limit = FetchesJunction junction name limit
 fetches_of (Some (Check junction certificate)) shelf name limit = FetchesBoth shelf junction certificate name limit

@@ -43,7 +43,8 @@ pub record HasPut (puts : List (List ℕ × List ℕ) → Type 0) (run : Run) : 
 
 -- the command asks the shelf for something: it fetches a name, or puts one
 abbrev pub AsksShelf : (List ℕ → ℕ → Type 0) → (List (List ℕ × List ℕ) → Type 0) → Type 0
-AsksShelf fetches puts = ((name : List ℕ) × (limit : ℕ) × fetches name limit) ⊎ ((put : List ℕ × List ℕ) × (puts_after : List (List ℕ × List ℕ)) × puts (put ∷ puts_after))
+AsksShelf fetches puts = ((name : List ℕ) × (limit : ℕ) × fetches name limit)
+    ⊎ ((put : List ℕ × List ℕ) × (puts_after : List (List ℕ × List ℕ)) × puts (put ∷ puts_after))
 
 -- the cause of a fault of the shelf, and what was put before it
 pub record ShelfFault (fetches : List ℕ → ℕ → Type 0) (puts : List (List ℕ × List ℕ) → Type 0) (run : Run) : Type 0 where
@@ -70,15 +71,23 @@ pub record PushesPart (answers : Answer → Type 0) (run : Run) : Type 0 where
 abbrev pub PrintedPart : Run → List ℕ → Type 0
 PrintedPart run line = (n : ℕ) × Printed run (take n line)
 
--- what a push that failed leaves: part of an answer's text, or part of the line of a fault of the shelf
+-- what a push that failed leaves: part of an answer's text, or of the line of a fault of the shelf or of a file that is too long
 abbrev pub IsCut : (Answer → Type 0) → (List ℕ → ℕ → Type 0) → (List (List ℕ × List ℕ) → Type 0) → Run → Type 0
-IsCut answers fetches puts run = PushesPart answers run ⊎ ((ShelfFault fetches puts run × PrintedPart run (refusal_line refusal.ShelfFailed)) ⊎ (LengthFault fetches run × PrintedPart run (refusal_line refusal.TooLong)))
+IsCut answers fetches puts run = PushesPart answers run
+    ⊎ ((ShelfFault fetches puts run × PrintedPart run (refusal_line refusal.ShelfFailed))
+    ⊎ (LengthFault fetches run × PrintedPart run (refusal_line refusal.TooLong)))
 
+-- this status, or a push failed, or memory is wanting
 abbrev pub OrPushFault : Status → Status → Type 0
 OrPushFault wanted given = (given ≡ wanted) ⊎ ((given ≡ SinkFailed) ⊎ (given ≡ Memory))
 
+-- this status, or a push failed, or memory is wanting, or the shelf failed and its count rose
+abbrev pub OrOutsideFault : Status → Run → Type 0
+OrOutsideFault wanted run = OrPushFault wanted run.status ⊎ ((run.status ≡ ShelfFailed) × ShelfRose run)
+
 -- how a run of a command ends that has these answers, fetches these names and makes these puts
-pub record Outcome (answers : Answer → Type 0) (fetches : List ℕ → ℕ → Type 0) (puts : List (List ℕ × List ℕ) → Type 0) (run : Run) : Type 0 where
+pub record Outcome (answers : Answer → Type 0) (fetches : List ℕ → ℕ → Type 0) (puts : List (List ℕ × List ℕ) → Type 0)
+    (run : Run) : Type 0 where
   -- an answer is put and pushed whole
   pub answered : IsAnswered run.status → (answer : Answer) × answers answer × Gives answer run
   -- a fault of the shelf: its cause and its line
@@ -90,11 +99,3 @@ pub record Outcome (answers : Answer → Type 0) (fetches : List ℕ → ℕ →
   pub sink_failed : run.status ≡ SinkFailed → SinkRose run × IsCut answers fetches puts run
   -- want of memory: what was put and pushed before it
   pub memory : run.status ≡ Memory → HasPut puts run × (Printed run [] ⊎ PushesPart answers run)
-
--- a fault of the shelf or the sink, or want of memory
-abbrev pub IsFault : Status → Type 0
-IsFault status = (status ≡ ShelfFailed) ⊎ ((status ≡ SinkFailed) ⊎ ((status ≡ Memory) ⊎ (status ≡ TooLong)))
-
--- this status, unless the outside fails
-abbrev pub OrFault : Status → Status → Type 0
-OrFault wanted given = (given ≡ wanted) ⊎ IsFault given

@@ -1,8 +1,8 @@
 //! What the program does: `run`, the top call, whose contract is what the program promises, and the
 //! statuses with which it ends.
 //!
-//! A command fetches its junction, and ends with its answer, which is put under a name, pushed, or both; or it is ended by
-//! a fault of the shelf or the sink, or by want of memory. How that may go is said once, for all commands (`Outcome`);
+//! A command reads its files or makes its junction, and ends with its answer, which is pushed, and before that put where
+//! it is a design; or it is ended by a fault of the shelf or the sink, or by want of memory. How that may go is said once, for all commands (`Outcome`);
 //! what a command answers is said command by command.
 #![tactic(auto)]
 

@@ -12,13 +12,14 @@ use crate::playing::play;
 use crate::sampling::design_sample;
 use crate::status::Status;
 use aspect_player::safety_law;
-use certificate_checker::rules_law;
+use certificate_checker::{part_law, rules_law};
 use command_words::{Command, read_words};
 use junction_files::reading_laws;
 use plan_certificate::text_laws;
 use plan_design::Objective;
 use plan_model::fault_law;
 use report_text::Refusal;
+use sample_junctions::sample_law;
 use sig_base::{Shelf, Sink};
 use std::alloc::Global;
 
@@ -102,7 +103,9 @@ pub fn run<S: Shelf, K: Sink>(alloc: Global, words: &[String], shelf: &mut S, ou
     reading_laws();
     text_laws();
     rules_law();
+    part_law();
     fault_law();
     safety_law();
+    sample_law();
     perform(alloc, words, shelf, out)
 }

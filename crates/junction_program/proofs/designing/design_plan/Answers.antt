@@ -30,10 +30,7 @@ returns g c =
       junction = c.in-Ok.junction;
       accepted = c.in-Ok.ensures.accepted;
       certificate = own;
-      asked = c.args.least;
-      least_is = refl;
-      design = c.in-Ok-design.ensures.design;
-      read_back = read_back;
+      made = record { asked = c.args.least; least_is = refl; design = c.in-Ok-design.ensures.design; read_back = read_back };
       status = c.status_of_claim-status.ensures.value;
       report = reported;
       puts = rw written refl;

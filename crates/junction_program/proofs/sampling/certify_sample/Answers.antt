@@ -27,10 +27,7 @@ returns g c =
     let told : IsSummary c.args.number junction own c.deref-2.result.now = subst (IsSummary c.args.number junction own) (sym c.deref-2.ensures.value) c.in-Ok-summary.ensures in
     let certifies : CertifiesSample c.args.number junction c.args.certificate_name.now _ = record {
       certificate = own;
-      asked = c.one.result;
-      least_is = c.one.ensures;
-      design = c.in-Ok.ensures.design;
-      read_back = read_back;
+      made = record { asked = c.one.result; least_is = c.one.ensures; design = c.in-Ok.ensures.design; read_back = read_back };
       status = c.status_of_claim-status.ensures.value;
       summary = told;
       puts = rw written refl;

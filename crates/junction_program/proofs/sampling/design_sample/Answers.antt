@@ -11,14 +11,14 @@ returns-in_default-print g c = memory_ends _ _ _ _ _ _ _ (inl refl) (put_nothing
 
 pub returns-in-Ok-put : goal.returns-in-Ok-put
 returns-in-Ok-put g c =
-    let file : SpellsSample c.args.number c.in-Ok.junction c.deref.result.now = record { sample = c.in-Ok.ensures; spelled = search rules } in
+    let file : SpellsSample c.args.number c.in-Ok.junction c.deref.result.now = record { sample = c.in-Ok.ensures; spelled = search rules; printed = search rules } in
     begun_with_put _ _ _ _ _ _ _ _ _ _ c.in-Ok-put.ensures.put
     (λ a e. record { junction = c.in-Ok.junction; bytes = c.deref.result.now; file = file; certified = a; certifies = e; told = refl })
     (λ p h. inr (record { junction = c.in-Ok.junction; bytes = c.deref.result.now; file = file; more = p; certificate = h; told = refl })) c.certify_sample.ensures
 
 pub returns : goal.returns
 returns g c =
-    let file : SpellsSample c.args.number c.in-Ok.junction c.deref.result.now = record { sample = c.in-Ok.ensures; spelled = search rules } in
+    let file : SpellsSample c.args.number c.in-Ok.junction c.deref.result.now = record { sample = c.in-Ok.ensures; spelled = search rules; printed = search rules } in
     put_ended _ _ _ _ _ (λ p h. elim h [
       | inl e ↦ inl e
       | inr e ↦ inr (record { junction = c.in-Ok.junction; bytes = c.deref.result.now; file = file; more = []; certificate = inl refl; told = e })
