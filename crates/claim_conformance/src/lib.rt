@@ -1,5 +1,5 @@
 //! The tests of the crates that search a junction and claim something of it: searches at one cycle and over all
-//! cycles, certificates, their checker, reports and the program. They are made as those of `conformance` are.
+//! cycles, certificates, their checker and reports. They are made as those of `conformance` are.
 #![tactic(auto)]
 
 #[cfg(test)]
@@ -9,13 +9,9 @@ mod of_capacity_search;
 #[cfg(test)]
 mod of_certificate_checker;
 #[cfg(test)]
-mod of_command_words;
-#[cfg(test)]
 mod of_cycle_orders;
 #[cfg(test)]
 mod of_cycle_search;
-#[cfg(test)]
-mod of_junction_program;
 #[cfg(test)]
 mod of_plan_certificate;
 #[cfg(test)]

@@ -1,19 +1,12 @@
 //! What a play prints: a row of each second. The rows were found by hand.
-use super::checks::CLASHING;
-use super::{check, check_put, run_words, shelf_of};
+use super::certificates::{CLASHING, NO_PLAN, SHORTEST};
+use super::{check, check_held, run_words, shelf_of};
 use junction_program::Status;
 use samples::{PAIR, RING};
 use sig_base::MemorySink;
 use std::test::Fail;
 
-/// Greens of 10 from 0, 13 and 26 on; ambers and red-ambers of 2 seconds.
-const RING_PLAN: &str =
-    "{\"branches\":[],\"budget\":2,\"claim\":\"cycle\",\"least\":[1,1],\"plan\":{\"cycle\":39,\"greens\":[10,10,10],\"starts\":[0,13,26]},\"version\":1}";
-
-const NO_PLAN: &str =
-    "{\"branches\":[[[0,1]]],\"budget\":1,\"claim\":\"infeasible\",\"least\":[2,1],\"plan\":null,\"version\":1}";
-
-/// Lines of 40 seconds by their number, from 0 on.
+/// Lines of 40 seconds by their number, from 0 on. Ambers and red-ambers take 2 seconds.
 const RING_LINES: [(usize, Option<&str>); 7] = [
     (0, Some("second,A,B,C")),
     (1, Some("0,green,red,red")),
@@ -27,7 +20,7 @@ const RING_LINES: [(usize, Option<&str>); 7] = [
 #[test]
 fn forty_seconds_of_a_ring(rt: HostRuntime) -> Result<(), Fail> {
     let alloc = rt.alloc();
-    let mut shelf = shelf_of(alloc, RING, RING_PLAN)?;
+    let mut shelf = shelf_of(alloc, RING, SHORTEST)?;
     let mut sink = MemorySink::new(alloc);
     let status = run_words(alloc, "play|J|C|40", &mut shelf, &mut sink)?;
     assert_eq!(rt; status, Status::Done);
@@ -35,18 +28,12 @@ fn forty_seconds_of_a_ring(rt: HostRuntime) -> Result<(), Fail> {
     for (number, want) in RING_LINES {
         assert_eq!(rt; text.split('\n').nth(number), want, "line {number}");
     }
-    check_put(&rt, &shelf, RING_PLAN)
+    check_held(&rt, &shelf, "C", SHORTEST)
 }
 
 /// The words, the junction, the certificate, the status and what is printed.
 const PLAYS: [(&str, &str, &str, Status, &str); 6] = [
-    (
-        "play|J|C|0",
-        RING,
-        RING_PLAN,
-        Status::Done,
-        "second,A,B,C\n",
-    ),
+    ("play|J|C|0", RING, SHORTEST, Status::Done, "second,A,B,C\n"),
     (
         "play|J|C|40",
         PAIR,
@@ -61,18 +48,18 @@ const PLAYS: [(&str, &str, &str, Status, &str); 6] = [
         Status::Refuted,
         "refuted 1 plan\n",
     ),
-    ("play|J|C", RING, RING_PLAN, Status::BadWords, "bad words\n"),
+    ("play|J|C", RING, SHORTEST, Status::BadWords, "bad words\n"),
     (
         "play|J|C|604801",
         RING,
-        RING_PLAN,
+        SHORTEST,
         Status::BadWords,
         "bad words\n",
     ),
     (
         "play|J|C|01",
         RING,
-        RING_PLAN,
+        SHORTEST,
         Status::BadWords,
         "bad words\n",
     ),
@@ -83,33 +70,9 @@ fn plays_of_no_row(rt: HostRuntime) -> Result<(), Fail> {
     let alloc = rt.alloc();
     for (words, junction, certificate, status, text) in PLAYS {
         let mut shelf = shelf_of(alloc, junction, certificate)?;
-        check(
-            &rt,
-            alloc,
-            words,
-            &mut shelf,
-            MemorySink::new(alloc),
-            (status, text),
-        )?;
-        check_put(&rt, &shelf, certificate)?;
+        let sink = MemorySink::new(alloc);
+        check(&rt, alloc, words, &mut shelf, sink, (status, text))?;
+        check_held(&rt, &shelf, "C", certificate)?;
     }
     Ok(())
-}
-
-/// The third push, that of second 1, fails after 2 bytes.
-#[test]
-fn a_row_that_is_cut(rt: HostRuntime) -> Result<(), Fail> {
-    let alloc = rt.alloc();
-    let mut shelf = shelf_of(alloc, RING, RING_PLAN)?;
-    let mut sink = MemorySink::new(alloc);
-    sink.fail_at(3, 2)?;
-    let part = "second,A,B,C\n0,green,red,red\n1,";
-    check(
-        &rt,
-        alloc,
-        "play|J|C|40",
-        &mut shelf,
-        sink,
-        (Status::SinkFailed, part),
-    )
 }
