@@ -1,0 +1,4 @@
+"""Tests of the tools: python3 -m unittest discover -s tools/tests -t tools"""
+import sys
+
+sys.dont_write_bytecode = True
