@@ -5,6 +5,7 @@ import sys
 
 from . import diagram, group_order, matrix, places, sheet, sumo, table
 from .fault import Fault, Misuse, printable
+from .page import opening
 from .shown import FORM
 
 DONE = 0
@@ -24,6 +25,7 @@ COMMANDS = {
     "order": (group_order.FORM, group_order.run),
     "sumo": (sumo.FORM, sumo.run),
     "where": (places.FORM, places.run),
+    "page": (opening.FORM, opening.run),
 }
 
 
