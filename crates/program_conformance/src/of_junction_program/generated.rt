@@ -72,14 +72,14 @@ fn a_sample_that_its_budget_covers(rt: HostRuntime) -> Result<(), Fail> {
 #[test]
 fn a_sample_that_is_not_put(rt: HostRuntime) -> Result<(), Fail> {
     let alloc = rt.alloc();
-    let file = printed(alloc, 142)?;
+    let file = printed(alloc, 1)?;
     for (call, held) in [(1u64, ""), (2, file.as_str())] {
         let mut shelf = MemoryShelf::new(alloc);
         shelf.fail_at(call)?;
         shelf.fail_at(call.saturating_add(1))?;
         let want = (Status::ShelfFailed, "shelf failed\n");
         let sink = MemorySink::new(alloc);
-        check(&rt, alloc, "sample|142|J|C", &mut shelf, sink, want)?;
+        check(&rt, alloc, "sample|1|J|C", &mut shelf, sink, want)?;
         check_next_call(&rt, alloc, &mut shelf)?;
         check_held(&rt, &shelf, "J", held)?;
         check_held(&rt, &shelf, "C", "")?;
