@@ -5,3 +5,7 @@ pub mod Answers
 pub mod Fraction
 pub mod Option
 pub mod Utf8
+pub mod Bits
+pub mod Without
+pub mod List
+pub mod First

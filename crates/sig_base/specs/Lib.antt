@@ -5,6 +5,7 @@ pub mod Ratio
 pub mod Text
 pub mod Padding
 pub mod Label
+pub mod LaneSet
 pub mod Title
 pub mod FaultCount
 pub mod Shelf

@@ -35,14 +35,19 @@ pub record FetchCause {T : Type 0} (holdings : Option Holdings) (name : List ℕ
   pub refusals_later : refusals_old ≤ refusals_new
   pub failed : IsErrOf result Failed → Rose faults_old faults_new ⊎ Lacks holdings name
   pub too_long : IsErrOf result TooLong → Rose refusals_old refusals_new
-  pub exceeds : IsErrOf result TooLong → IfSome holdings (λ _. Exceeds holdings name limit × (faults_new ≡ faults_old))
+  pub exceeds : IsErrOf result TooLong → IfSome holdings (λ _. Exceeds holdings name limit)
   pub refused : Exceeds holdings name limit → ¬ Rose faults_old faults_new → IsErrOf result TooLong ⊎ IsErrOf result Memory
+  -- neither count rises behind another answer
+  pub faults_same : ¬ IsErrOf result Failed → faults_new ≡ faults_old
+  pub refusals_same : ¬ IsErrOf result TooLong → refusals_new ≡ refusals_old
 
 -- when a put is refused
 pub record PutCause {T : Type 0} (faults_old faults_new : ℕ) (result : Result T ShelfFault) : Type 0 where
   pub later : faults_old ≤ faults_new
   pub failed : IsErrOf result Failed → Rose faults_old faults_new
   pub not_too_long : ¬ IsErrOf result TooLong
+  -- the count doesn't rise behind another answer
+  pub same : ¬ IsErrOf result Failed → faults_new ≡ faults_old
 
 -- the name holds the bytes, and all else stays; nothing is told where nothing was
 abbrev pub Puts : Option Holdings → Option Holdings → List ℕ → List ℕ → Type 0

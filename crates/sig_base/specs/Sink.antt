@@ -1,5 +1,5 @@
 -- What a push does to the bytes written, where the sink tells them, and the cause of its fault.
-use Rattle.std.specs.Prelude.{ℕ, List, take, Option, Result, ◌≤◌, OnOk, IsErrOf}
+use Rattle.std.specs.Prelude.{ℕ, List, take, Option, Result, ◌≡◌, ◌≤◌, OnOk, IsErrOf}
 use Rattle.std.specs.Io.KnownBytes.{Appends, Keeps}
 use Rattle.sig_base.specs.FaultCount.{Rose}
 use Rattle.sig_base.specs.declared.sink.SinkFault.{SinkFault}
@@ -12,3 +12,5 @@ pub record Pushes {T : Type 0} (old new : Option (List ℕ)) (piece : List ℕ) 
   pub nothing : IsErrOf result Memory → Keeps old new
   pub later : faults_old ≤ faults_new
   pub failed : IsErrOf result Failed → Rose faults_old faults_new
+  -- the count doesn't rise behind a push of the whole piece
+  pub same : OnOk result (faults_new ≡ faults_old)

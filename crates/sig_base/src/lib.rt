@@ -5,7 +5,9 @@
 
 mod call_number;
 mod divisor;
+mod file_node;
 mod file_shelf;
+mod folder;
 mod group_times;
 mod label;
 mod lane_set;

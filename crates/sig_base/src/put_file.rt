@@ -1,6 +1,7 @@
 ghost use Rattle.std.specs.Prelude.{◌≢◌, Err};
 ghost use Rattle.sig_base.specs.declared.shelf.ShelfFault.TheVariants.{TooLong};
 
+use crate::folder::sync_folder;
 use crate::shelf::ShelfFault;
 use crate::sibling::open_sibling;
 use crate::write_whole::write_whole;
@@ -34,9 +35,7 @@ fn put_through_link<R: Files>(
 {
     let found = match rt.metadata(name) {
         Ok(found) => found,
-        Err(error) if error.kind() == ErrorKind::NotFound => {
-            return write_in_place(fs::create(rt, name), bytes);
-        }
+        Err(error) if error.kind() == ErrorKind::NotFound => return make_target(rt, name, bytes),
         Err(_) => return Err(ShelfFault::Failed),
     };
     if !found.is_file() {
@@ -47,6 +46,16 @@ fn put_through_link<R: Files>(
         Err(error) if error.kind() == ErrorKind::OutOfMemory => Err(ShelfFault::Memory),
         Err(_) => Err(ShelfFault::Failed),
     }
+}
+
+/// Makes the missing file that a link names.
+fn make_target<R: Files>(rt: &R, name: &str, bytes: &[u8]) -> Result<(), ShelfFault>
+    ensures { result ≢ Err TooLong }
+{
+    let Ok(mut file) = fs::create(rt, name) else {
+        return Err(ShelfFault::Failed);
+    };
+    answer(fill(&mut file, None, bytes))
 }
 
 /// Replaces a regular file, where it can be opened for writing.
@@ -65,7 +74,8 @@ fn replace<R: Files>(
     }
 }
 
-/// Writes a new file beside the name and renames it over the name. After a fault it is taken away.
+/// Writes a new file beside the name, renames it over the name and syncs the folder. After a fault before
+/// that it is taken away.
 fn place<R: Files>(
     rt: &R,
     alloc: Global,
@@ -77,12 +87,12 @@ fn place<R: Files>(
 {
     let (sibling, mut file) = open_sibling(rt, alloc, name)?;
     let is_written = fill(&mut file, permissions, bytes);
-    if is_written && fs::rename(rt, sibling.as_str(), name).is_ok() {
-        return Ok(());
+    if !is_written || fs::rename(rt, sibling.as_str(), name).is_err() {
+        // The fault is told all the same where the file can't be taken away.
+        let _ = fs::remove_file(rt, sibling.as_str());
+        return Err(ShelfFault::Failed);
     }
-    // The fault is told all the same where the file can't be taken away.
-    let _ = fs::remove_file(rt, sibling.as_str());
-    Err(ShelfFault::Failed)
+    answer(sync_folder(rt, name))
 }
 
 /// Writes and syncs a new file; whether it could.
@@ -102,7 +112,13 @@ fn write_in_place<F: Write + Drop>(opened: io::Result<F>, bytes: &[u8]) -> Resul
     let Ok(mut file) = opened else {
         return Err(ShelfFault::Failed);
     };
-    if write_whole(&mut file, bytes) {
+    answer(write_whole(&mut file, bytes))
+}
+
+fn answer(is_done: bool) -> Result<(), ShelfFault>
+    ensures { result ≢ Err TooLong }
+{
+    if is_done {
         Ok(())
     } else {
         Err(ShelfFault::Failed)

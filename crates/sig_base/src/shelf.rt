@@ -34,7 +34,8 @@ impl From<AllocError> for ShelfFault {
 /// A store of named bytes.
 ///
 /// It has three meanings: what it holds, where it tells that; a count of its faults; and a count of
-/// the fetches that it refused for length. Neither count ever falls.
+/// the fetches that it refused for length. Neither count ever falls, and each rises only in a call that
+/// answers so.
 pub trait Shelf {
     ghost use Rattle.sig_base.specs.Shelf.{Holdings, held, Puts, FetchCause, PutCause};
 

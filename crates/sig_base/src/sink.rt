@@ -23,7 +23,7 @@ impl From<AllocError> for SinkFault {
 /// An output that takes bytes in pieces.
 ///
 /// It has two meanings: the bytes written, where it tells them, and a count of its faults, which
-/// never falls.
+/// never falls, and stays in a push of a whole piece.
 pub trait Sink {
     ghost use Rattle.sig_base.specs.Sink.{Pushes};
 
