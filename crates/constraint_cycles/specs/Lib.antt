@@ -9,6 +9,7 @@ pub mod StartsLaws
 pub mod Tree
 pub mod Visit
 pub mod TreeShape
+pub mod Forest
 pub mod OrderLaws
 pub mod EdgeLaws
 pub mod WalkLaws

@@ -6,12 +6,11 @@ use Rattle.std.specs.Int.{bit_at}
 use Rattle.std.specs.Option.{option_map_or}
 use Rattle.std.proofs.lemmas.Bool.{and_parts, and_from, not-true, not-false, both_ways, eq-eqb, eqb-true, eqb-false, ltb-true, leb-true, lt-ltb, le-leb}
 use Rattle.std.proofs.Math.Bool.{or_assoc}
-use Rattle.std.proofs.lemmas.Nat.{bit_set_by_shift}
-use Rattle.std.proofs.lemmas.Nat.Bits.{shr_and_one}
 use Rattle.sig_base.specs.Fraction.{Fraction}
 use Rattle.sig_base.specs.declared.lane_set.LaneSet.{LaneSet}
 use Rattle.sig_base.specs.declared.target.Target.{Target}
 use Rattle.sig_base.specs.declared.target.Target.TheVariants.{Reach, Beat}
+use Rattle.sig_base.proofs.Bits.{one_of_set, set_of_one}
 use Rattle.flow_model.specs.declared.lane.Lane.{Lane}
 use Rattle.junction_model.specs.declared.group.Group.{Group}
 use Rattle.junction_model.specs.Junction.{JunctionView}
@@ -33,9 +32,7 @@ serves_tells (Reach r) own = (λ passes. leb-true _ _ passes, λ is. le-leb _ _ 
 serves_tells (Beat r) own = (λ passes. ltb-true _ _ passes, λ is. lt-ltb _ _ is)
 
 bit_tells : (n k : ℕ) → Decides (bit_at n k == 1) (IsBitSet n k)
-bit_tells n k =
-    let by_shift = rw (shr_and_one n k) at (bit_set_by_shift n k) in
-    (λ passes. by_shift.0 (eqb-true _ _ passes), λ is. eq-eqb _ _ (by_shift.1 is))
+bit_tells n k = (λ passes. set_of_one n k (eqb-true _ _ passes), λ is. eq-eqb _ _ (one_of_set n k is))
 
 none_arrives : (n : ℕ) → (n == 0) ≡ true → 1 ≤ n → ⊥
 none_arrives n none some = omega (arith, eqb-true n 0 none)

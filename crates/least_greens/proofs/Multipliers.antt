@@ -8,7 +8,7 @@ use Rattle.sig_base.specs.declared.ratio.Ratio.{Ratio}
 use Rattle.sig_base.specs.declared.target.Target.{Target}
 use Rattle.sig_base.specs.declared.target.Target.TheVariants.{Reach, Beat}
 use Rattle.junction_model.specs.Junction.{JunctionView}
-use Rattle.plan_model.specs.Multiplier.{CountsAs, Serves}
+use Rattle.plan_model.specs.Multiplier.{CountsAs, IsLeastMultiplier, MeetsTarget, Serves}
 use Rattle.plan_model.specs.SignalPlan.{PlanView}
 use Rattle.sig_base.proofs.Fraction.{at_most_trans}
 use Rattle.plan_model.proofs.LaneMultiplier.{lane_of, some_product}
@@ -42,6 +42,16 @@ pub beaten_law : BeatenLaw
 beaten_law junction p lanes r target lasts least meets =
     let lane = least.reached in
     at_own target lane.1 r (counted_den junction p lanes lane.0 lane.1 lasts lane.2) lane.3 (meets.serves lane.0 lane.1 lane.2)
+
+-- a target that a plan meets isn't above that of reaching the plan's least multiplier
+pub reached_own : (junction : JunctionView) (p : PlanView) (lanes : LaneSet) (r : Ratio) (target : Target) → 1 ≤ p.cycle → IsLeastMultiplier junction p lanes (fraction_of r) →
+    MeetsTarget junction p lanes target → IsNotAbove target (Reach r)
+reached_own junction p lanes r target lasts least meets = elim (reached_or_beaten target r) [
+  | inl below ↦ below
+  | inr above ↦ (let lane = least.reached in
+      let beaten = lesser_target_law (Beat r) target lane.1 above (counted_den junction p lanes lane.0 lane.1 lasts lane.2) (meets.serves lane.0 lane.1 lane.2) in
+      absurd (omega (arith, beaten, lane.3)))
+]
 
 pub not_beaten_law : NotBeatenLaw
 not_beaten_law junction p lanes r least meets =

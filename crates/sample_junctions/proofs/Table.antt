@@ -6,6 +6,7 @@ use Rattle.std.proofs.lemmas.List.Elements.{All-map}
 use Rattle.std.proofs.lemmas.Option.{slice_get-map, slice_get-get_or, slice_get_within, get_or_from_slice_get}
 use Rattle.sig_base.specs.First.{SomeBelow}
 use Rattle.sig_base.specs.declared.group_times.GroupTimes.{GroupTimes}
+use Rattle.sig_base.proofs.Option.{some_and}
 use Rattle.conflict_matrix.specs.Matrix.{Matrix, IsMatrix, AreConflicting, intergreen_of}
 use Rattle.conflict_matrix.specs.Entries.{AreEntries, IsFirstFault, IsTableOf, IsSelfConflict, IsSamePair, Involves, IsTooShort, HasShortWay, Tells, SelfConflictAt, RepeatedAt, ShortAt}
 use Rattle.conflict_matrix.specs.declared.entry.Entry.{Entry}
@@ -17,10 +18,6 @@ use Rattle.sample_junctions.specs.Parts.{AreGroupsOfSample}
 use Rattle.sample_junctions.specs.Conflicts.{all_pairs, drawn_conflicts}
 use Rattle.sample_junctions.proofs.Rising.{AreRising, all_pairs_rise, all_pairs_have, all_pairs_few, rising_at, rising_apart}
 use Rattle.sample_junctions.proofs.Drawn.{pair_of, IsDrawn, IsOfNext, all_drawn, drawn_rise, drawn_few, drawn_next}
-
-some_and : {X : Type 0} (o : Option X) (P : X → Type 0) → IsSomeAnd o P → (x : X) × (o ≡ Some x) × P x
-some_and None P h = absurd h
-some_and (Some x) P h = (x, refl, h)
 
 if_some : {X : Type 0} (o : Option X) (P : X → Type 0) → ((x : X) → o ≡ Some x → P x) → IfSome o P
 if_some None P h = tt

@@ -2,14 +2,8 @@
 use Rattle.std.proofs.Common.{ℕ, ◌≡◌, ◌^◌, ◌↔◌, ◌⊎◌, inl, inr, sym, ◌∙◌, subst, bit_or, IsBitSet, arith}
 use Rattle.std.specs.Int.{bit_at}
 use Rattle.std.proofs.lemmas.Bool.{cases_eq}
-use Rattle.std.proofs.lemmas.Nat.{bit_set_by_shift}
-use Rattle.std.proofs.lemmas.Nat.Bits.{shr_and_one, bit_at-lt, bit_at-zero, bit_at_or, bit_at-pow_same, bit_at-pow_other, same_from_bits}
-
-one_of_set : (n k : ℕ) → IsBitSet n k → bit_at n k ≡ 1
-one_of_set n k set = sym (shr_and_one n k) ∙ (bit_set_by_shift n k).1 set
-
-set_of_one : (n k : ℕ) → bit_at n k ≡ 1 → IsBitSet n k
-set_of_one n k one = (bit_set_by_shift n k).0 (shr_and_one n k ∙ one)
+use Rattle.std.proofs.lemmas.Nat.Bits.{bit_at-lt, bit_at-zero, bit_at_or, bit_at-pow_same, bit_at-pow_other, same_from_bits}
+use Rattle.sig_base.proofs.Bits.{one_of_set, set_of_one}
 
 pub none_set : (k : ℕ) → IsBitSet 0 k → ⊥
 none_set k set = let one : bit_at 0 k ≡ 1 = one_of_set 0 k set in omega (arith, one, bit_at-zero k)
