@@ -1,9 +1,9 @@
 -- Why each lane of a junction is in the set of all lanes.
 use Rattle.std.proofs.Common.{ℕ, ◌≡◌, ◌<◌, ◌≤◌, arith}
 use Rattle.std.specs.Prelude.{Some, IsBitSet}
-use Rattle.std.proofs.lemmas.Nat.{bit_set_by_shift}
-use Rattle.std.proofs.lemmas.Nat.Bits.{shr_and_one, bit_at_ones}
+use Rattle.std.proofs.lemmas.Nat.Bits.{bit_at_ones}
 use Rattle.sig_base.specs.Fraction.{Fraction}
+use Rattle.sig_base.proofs.Bits.{set_of_one}
 use Rattle.junction_model.specs.Junction.{JunctionView}
 use Rattle.junction_model.specs.Rules.{IsJunction}
 use Rattle.plan_model.specs.SignalPlan.{PlanView}
@@ -12,7 +12,7 @@ use Rattle.plan_model.specs.AllLanes.{all_lanes, AllLanesTargetLaw, AllLanesMult
 use Rattle.plan_model.proofs.LeastLane.{counts_within}
 
 pub chosen : (k : ℕ) → k < 32 → IsBitSet all_lanes.bits k
-chosen k few = (bit_set_by_shift all_lanes.bits k).0 (rw (shr_and_one all_lanes.bits k) (bit_at_ones 32 k few))
+chosen k few = set_of_one all_lanes.bits k (bit_at_ones 32 k few)
 
 counts : (junction : JunctionView) (p : PlanView) (k : ℕ) (own : Fraction) → IsJunction junction → multiplier_at junction p k ≡ Some own →
     CountsAs junction p all_lanes k own

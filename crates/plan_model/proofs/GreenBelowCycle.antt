@@ -1,8 +1,6 @@
 -- Why no green of a plan that fits fills the cycle, not even with the amber after it.
-use Rattle.std.proofs.Common.{ℕ, ◌≡◌, ◌+◌, ◌<◌, ◌≤◌, inl, inr, arith, add-zero}
-use Rattle.std.specs.Prelude.{Some, slice_get}
+use Rattle.std.proofs.Common.{ℕ, ◌<◌, ◌≤◌, arith, add-zero}
 use Rattle.std.proofs.lemmas.Option.{slice_get_within}
-use Rattle.junction_model.specs.declared.group.Group.{Group}
 use Rattle.conflict_matrix.specs.Matrix.{intergreen_of}
 use Rattle.junction_model.specs.Junction.{JunctionView}
 use Rattle.junction_model.specs.Rules.{IsJunction}

@@ -1,7 +1,7 @@
 -- The least multiplier of the lanes so far, with one lane more.
 use Rattle.std.proofs.Common.{ℕ, ◌≡◌, ◌+◌, ◌<◌, ◌≤◌, ◌⊎◌, length, inl, inr, arith, refl, sym, subst, below_more}
 use Rattle.std.proofs.lemmas.Bool.{cases_lt}
-use Rattle.std.specs.Prelude.{Option, None, Some}
+use Rattle.std.specs.Prelude.{Option, None, Some, IsNone, IfSome, ◌↔◌}
 use Rattle.std.proofs.lemmas.Option.{slice_get_past, slice_get_within}
 use Rattle.sig_base.specs.Fraction.{Fraction, IsSameFraction, IsAtMost}
 use Rattle.sig_base.specs.Ratio.{fraction_of}
@@ -10,11 +10,11 @@ use Rattle.sig_base.specs.declared.ratio.Ratio.{Ratio}
 use Rattle.junction_model.specs.Junction.{JunctionView}
 use Rattle.junction_model.specs.Rules.{IsJunction}
 use Rattle.plan_model.specs.SignalPlan.{PlanView, green_of}
-use Rattle.plan_model.specs.Multiplier.{CountsAs, multiplier_at}
+use Rattle.plan_model.specs.Multiplier.{CountsAs, IsLeastMultiplier, multiplier_at}
 use Rattle.plan_model.specs.Least.{CountsNot, CountsFor, IsLeastBelow, FoundBelow}
 use Rattle.plan_model.specs.Serving.{multiplier_under}
-use Rattle.plan_model.specs.MultiplierLaws.{HasFlow, LeastMultiplierOrNone}
-use Rattle.plan_model.proofs.LaneMultiplier.{lane_group, multiplier_of}
+use Rattle.plan_model.specs.MultiplierLaws.{HasFlow}
+use Rattle.plan_model.proofs.LaneMultiplier.{lane_group, lane_of, multiplier_of}
 use Rattle.sig_base.proofs.Fraction.{at_most_same, at_most_trans}
 
 abbrev IsAtMostEach : JunctionView → PlanView → LaneSet → Fraction → ℕ → Type 0
@@ -76,16 +76,28 @@ flow_counts junction p lanes rules flow =
       },
     )
 
+-- the lane of a least multiplier has an arrival
+least_flow : (junction : JunctionView) (p : PlanView) (lanes : LaneSet) (m : Fraction) → IsLeastMultiplier junction p lanes m → HasFlow junction lanes
+least_flow junction p lanes m least =
+    let counts = least.reached.2 in
+    let of = lane_of junction p least.reached.0 least.reached.1 counts.multiplier in
+    record { number = least.reached.0; lane = of.0; there = of.2.lane_there; chosen = counts.chosen; arrives = of.2.arrives }
+
+-- what is found over all lanes: none exactly where the set has no flow, and else its least multiplier
 pub found_all : (junction : JunctionView) (p : PlanView) (lanes : LaneSet) (n : ℕ) (found : Option Ratio) → IsJunction junction → length junction.lanes ≤ n →
-    FoundBelow junction p lanes n found → LeastMultiplierOrNone junction p lanes found
-found_all junction p lanes n None rules all below = λ flow.
+    FoundBelow junction p lanes n found → (IsNone found ↔ ¬ HasFlow junction lanes) × IfSome found (λ r. IsLeastMultiplier junction p lanes (fraction_of r))
+found_all junction p lanes n None rules all below =
+    let still : ¬ HasFlow junction lanes = λ flow.
     let own = flow_counts junction p lanes rules flow in
     let inside = slice_get_within junction.lanes flow.number flow.lane flow.there in
-    below flow.number (omega arith) own.0 own.1
-found_all junction p lanes n (Some r) rules all below = record {
-  reached = (below.reached.0, below.reached.1.0, below.reached.1.1, below.reached.1.2);
-  least = λ k own counts. elim (cases_lt k n) [
-    | inl w ↦ below.least k own w counts
-    | inr w ↦ absurd (counts_within junction p k own counts.multiplier (omega arith))
-  ];
-}
+    below flow.number (omega arith) own.0 own.1 in
+    ((λ is. still, λ none. refl), tt)
+found_all junction p lanes n (Some r) rules all below =
+    let least : IsLeastMultiplier junction p lanes (fraction_of r) = record {
+      reached = (below.reached.0, below.reached.1.0, below.reached.1.1, below.reached.1.2);
+      least = λ k own counts. elim (cases_lt k n) [
+        | inl w ↦ below.least k own w counts
+        | inr w ↦ absurd (counts_within junction p k own counts.multiplier (omega arith))
+      ];
+    } in
+    ((λ is. absurd (cc), λ none. absurd (none (least_flow junction p lanes (fraction_of r) least))), least)

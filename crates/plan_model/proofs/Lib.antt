@@ -13,3 +13,4 @@ pub mod Optimal
 pub mod OwnOrder
 pub mod OneMark
 pub mod FullOrder
+pub mod OneFault

@@ -2,7 +2,7 @@
 use Rattle.std.proofs.Common.{ℕ, zero, suc, ◌≡◌, ◌+◌, ◌*◌, ◌^◌, ◌≤◌, ◌⊎◌, length, inl, inr, arith, refl, subst, add-one}
 use Rattle.std.proofs.lemmas.Bool.{cases_lt, cases_eq}
 use Rattle.std.proofs.lemmas.Option.{slice_get-get_or}
-use Rattle.std.specs.Prelude.{Option, None, Some, MatchOption}
+use Rattle.std.specs.Prelude.{Option, None, Some, IsNone, IfSome, ◌↔◌}
 use Rattle.std.specs.Int.Bits.{bit_and}
 use Rattle.sig_base.specs.Fraction.{Fraction, IsAtMost, IsSameFraction}
 use Rattle.sig_base.specs.Ratio.{fraction_of}
@@ -58,9 +58,9 @@ module _ (junction : JunctionView) (p : PlanView) (lanes : LaneSet) (rules : IsJ
         | inr made ↦ one_more n made.0 before.0 before.1 made.1
       ])
 
-has_one : {Q : Type 0} {P : Ratio → Type 0} (found : Option Ratio) → MatchOption found (Q → ⊥) P → Q → (r : Ratio) × P r
-has_one None none q = absurd (none q)
-has_one (Some r) h q = (r, h)
+has_one : {Q : Type 0} {P : Ratio → Type 0} (found : Option Ratio) → (IsNone found ↔ ¬ Q) × IfSome found P → Q → (r : Ratio) × P r
+has_one None h q = absurd (h.0.0 refl q)
+has_one (Some r) h q = (r, h.1)
 
 pub some_multiplier_law : SomeMultiplierLaw
 some_multiplier_law junction p lanes rules some flow =

@@ -1,5 +1,5 @@
 -- Each set of lanes on which something arrives has one least multiplier, which is a ratio.
-use Rattle.std.specs.Prelude.{ℕ, Option, Some, ◌≡◌, ◌≤◌, IsBitSet, MatchOption, slice_get}
+use Rattle.std.specs.Prelude.{ℕ, Some, ◌≡◌, ◌≤◌, IsBitSet, slice_get}
 use Rattle.sig_base.specs.Fraction.{Fraction, IsSameFraction}
 use Rattle.sig_base.specs.Ratio.{fraction_of}
 use Rattle.sig_base.specs.declared.lane_set.LaneSet.{LaneSet}
@@ -19,10 +19,6 @@ pub record HasFlow (junction : JunctionView) (lanes : LaneSet) : Type 0 where
   pub there : slice_get junction.lanes number ≡ Some lane
   pub chosen : IsBitSet lanes.bits number
   pub arrives : 1 ≤ lane.arrival
-
--- the least multiplier of a set with flow, or none where the set has none
-abbrev pub LeastMultiplierOrNone : JunctionView → PlanView → LaneSet → Option Ratio → Type 0
-LeastMultiplierOrNone junction p lanes answer = MatchOption answer (¬ HasFlow junction lanes) (λ r. IsLeastMultiplier junction p lanes (fraction_of r))
 
 -- the denominator of a lane's multiplier is at least 1
 abbrev pub LaneDenominatorLaw : Type 0

@@ -1,8 +1,9 @@
-ghost use Rattle.std.specs.Prelude.{◌≡◌, ◌+◌, ◌≤◌, ◌<◌, ◌⊎◌, length};
+ghost use Rattle.std.specs.Prelude.{◌≡◌, ◌↔◌, ◌+◌, ◌≤◌, ◌<◌, ◌⊎◌, length, IsNone, IfSome};
 ghost use Rattle.sig_base.specs.Fraction.{IsAtMost};
 ghost use Rattle.sig_base.specs.Ratio.{fraction_of};
 ghost use Rattle.plan_model.specs.Claims.{IsPlanMultiplier};
-ghost use Rattle.plan_model.specs.MultiplierLaws.{LeastMultiplierOrNone};
+ghost use Rattle.plan_model.specs.Multiplier.{IsLeastMultiplier};
+ghost use Rattle.plan_model.specs.MultiplierLaws.{HasFlow};
 ghost use Rattle.plan_model.specs.Least.{IsMultiplierAt, IsCountedAt, FoundBelow};
 ghost use Rattle.plan_model.specs.FittedPlan.{junction_of, fitted_plan_of};
 
@@ -74,7 +75,9 @@ fn with_lane(plan: &FittedPlan, lanes: LaneSet, lane: usize, least: Option<Ratio
 /// The greatest flow multiple at which each lane of the set keeps its limit under the plan: the least
 /// of their multipliers. `None` exactly where none of them has an arrival above 0.
 pub fn multiplier(plan: &FittedPlan, lanes: LaneSet) -> Option<Ratio>
-    ensures { LeastMultiplierOrNone (junction_of plan.now) (fitted_plan_of plan.now) lanes result }
+    ensures none { IsNone result ↔ ¬ HasFlow (junction_of plan.now) lanes }
+    ensures least { IfSome result (λ m. IsLeastMultiplier (junction_of plan.now)
+        (fitted_plan_of plan.now) lanes (fraction_of m)) }
 {
     plan.junction().rules();
     let mut least = None;

@@ -1,4 +1,4 @@
-use Rattle.std.proofs.Common.{◌≤◌, arith}
+use Rattle.std.proofs.Common.{arith}
 use Rattle.plan_model.proofs.effective_green.effective_green_of.Goals as goal
 
 pub returns-clause-within : goal.returns-clause-within

@@ -6,4 +6,4 @@ pub returns : goal.returns
 returns c =
     let rules : IsJunction (junction_of c.args.plan.now) = rw c.junction.ensures at c.rules.ensures in
     (c.all_lanes_law.ensures.multiplier (junction_of c.args.plan.now) (fitted_plan_of c.args.plan.now) _ rules).0
-    (rw c.all_lanes_law.ensures.set at c.in-Some.ensures) c.in-Some.multiplier.lowest.positive
+    (rw c.all_lanes_law.ensures.set at c.in-Some.ensures.least) c.in-Some.multiplier.lowest.positive
