@@ -1,3 +1,4 @@
 pub mod Junction
 pub mod Rules
 pub mod Covers
+pub mod Narrowed

@@ -1,7 +1,8 @@
-ghost use Rattle.std.specs.Prelude.{◌≡◌, ◌↔◌, IsTrue};
+ghost use Rattle.std.specs.Prelude.{◌≡◌, ◌≤◌, ◌↔◌, IsTrue, IfOk};
 ghost use Rattle.conflict_matrix.specs.Conflicts.{matrix_of};
 ghost use Rattle.junction_model.specs.Covers.{cover_of};
 ghost use Rattle.junction_model.specs.Junction.{junction_from};
+ghost use Rattle.junction_model.specs.Narrowed.{narrowed};
 ghost use Rattle.junction_model.specs.Rules.{IsJunction};
 
 use crate::covers::tree_cover;
@@ -9,7 +10,8 @@ use crate::group::Group;
 use crate::rules::{are_conflicts, are_cycles, are_groups, are_lanes};
 use conflict_matrix::Conflicts;
 use flow_model::Lane;
-use sig_base::Title;
+use sig_base::{NoMemory, Title};
+use std::alloc::Global;
 use std::marker::Model;
 
 /// A junction that keeps all the rules of a junction file.
@@ -84,6 +86,18 @@ impl Junction {
             lanes,
             conflicts,
         }
+    }
+
+    /// The same junction with this cycle alone, in seconds, as the least and the greatest one.
+    pub fn narrow(&self, alloc: Global, cycle: u32) -> Result<Junction, NoMemory>
+        requires least { self.now.least_cycle ≤ cycle }
+        requires greatest { cycle ≤ self.now.greatest_cycle }
+        ensures { IfOk result (λ j. j ≡ narrowed self.now cycle) }
+    {
+        self.rules();
+        let groups = Vec::from_slice(alloc, &self.groups)?;
+        let lanes = Vec::from_slice(alloc, &self.lanes)?;
+        Ok(Junction::new(self.title, cycle, cycle, groups, lanes, self.conflicts))
     }
 
     /// What each junction keeps. This method does nothing: a caller that rests on the rules calls it.
