@@ -4,6 +4,7 @@ use Rattle.std.proofs.lemmas.Bool.{cases_eq, cases_lt, false≢true}
 use Rattle.std.proofs.lemmas.Bool.Decides.{nat_tests}
 use Rattle.std.proofs.lemmas.Int.{ints}
 use Rattle.std.proofs.lemmas.Option.{same_Some, slice_get_within, slice_get-get_or}
+use Rattle.sig_base.proofs.Option.{some_and}
 use Rattle.conflict_matrix.specs.Matrix.{Matrix, IsMatrix, intergreen_of}
 use Rattle.conflict_matrix.specs.Links.{AreLinks}
 use Rattle.conflict_matrix.specs.Pairs.{pairs_of, lower_first}
@@ -14,11 +15,12 @@ use Rattle.constraint_cycles.specs.EdgeLaws.{ItemAsks, IsAsked, IsLinkOf, IsItem
 use Rattle.constraint_cycles.specs.declared.mark.Mark.{Mark}
 use Rattle.constraint_cycles.specs.declared.mark.Mark.TheVariants.{Open, First, Second}
 use Rattle.difference_system.specs.Ends.{AreEndsAmong}
-use Rattle.difference_system.specs.Sums.{asks_of, sum_of, with_edges, AreSums, AreEdgesAmong, AreWithEdges, MakesCycle, IsSummed}
+use Rattle.difference_system.specs.Sums.{asks_of, sum_of, with_edges, AreSums, AreEdgesAmong, AreWithEdges, MakesCycle, MakesNoCycle, IsSummed}
+use Rattle.difference_system.specs.Decision.{AreDecisionEdges, LeavesOpen}
+use Rattle.constraint_cycles.specs.Starts.{MeetsEdges}
 use Rattle.difference_system.specs.declared.sums.matrix.Sums.{Sums}
 use Rattle.difference_system.specs.declared.sums.matrix.TwoEdges.{TwoEdges}
 use Rattle.difference_system.proofs.AreSums.{AsksNoMore, meets_less, sums_same, cycle_closes, sums_with_edges}
-use Rattle.difference_system.proofs.IsModest.{some_and}
 use Rattle.difference_system.proofs.Spokes.{some_if}
 
 -- two groups, in either sense
@@ -203,3 +205,20 @@ module _ (pair_law : PairLaw) (m : Matrix) (matrix : IsMatrix m) (item i j : ℕ
             sums_same m.groups (with_edges (asks_of (edge_weight m marks needs cycle)) _) (asks_of (edge_weight m (set marks item mark) needs cycle)) (sum_of new) before_less after_less
             (sums_with_edges m.groups (asks_of (edge_weight m marks needs cycle)) old h _ among (sum_of new) with_them
             (λ x y w is. let asked = asked_law m marks needs cycle x y w matrix is in (asked.0, asked.1)))
+
+module _ (pair_law : PairLaw) (m : Matrix) (matrix : IsMatrix m) (item : ℕ) (mark : Mark) (decides : mark ≢ Open) (needs : List ℕ) (cycle : ℕ)
+    (asked_law : AskedLaw) (greatest_law : GreatestLaw) (decided_law : DecidedLaw) (other_law : OtherEdgeLaw) (marks : List Mark) (was_open : slice_get marks item ≡ Some Open)
+    (next : List Mark) (is : next ≡ set marks item mark) (e : TwoEdges) (own : AreDecisionEdges m next needs cycle item e)
+    (old : ℕ → ℕ → ℤ) (h : AreSums m.groups (asks_of (edge_weight m marks needs cycle)) old) where
+  summed : (found : Option Sums) → MatchOption found (MakesCycle old e) (λ new. AreWithEdges m.groups old e (sum_of new)) → IsSummed m.groups (edge_weight m next needs cycle) found
+  summed found with_them = subst (λ (ms : List Mark). IsSummed m.groups (edge_weight m ms needs cycle) found) (sym is)
+      (decided pair_law m matrix item e.from e.to own.ends mark decides needs cycle asked_law greatest_law decided_law other_law marks was_open
+      e.forth e.back (rw is at own.forth) (rw is at own.back) old h own.among found with_them)
+
+  -- where the two edges make no positive cycle, they leave starts
+  pub left_open : MakesNoCycle old e → LeavesOpen m next needs cycle old e
+  left_open none = record { among = own.among; no_cycle = none; sums = λ new with_them. summed (Some new) with_them }
+
+  -- and where they make one, none
+  pub left_closed : MakesCycle old e → (starts : List ℕ) → ¬ MeetsEdges (edge_weight m next needs cycle) starts
+  left_closed positive = summed None positive

@@ -1,11 +1,13 @@
 -- A walk has the same sum from each of its groups on; the end of a trail as a walk.
-use Rattle.std.proofs.Common.{ℕ, List, [], ◌∷◌, ◌++◌, ◌≡◌, ℤ, Option, Some, None, refl, sym, ap, ◌∙◌, take, drop, arith, length, ◌≤◌, ◌<◌, ◌-◌, ◌+◌, ◌==◌, Bool, All, reverse}
+use Rattle.std.proofs.Common.{ℕ, List, [], ◌∷◌, ◌++◌, ◌≡◌, ℤ, Option, Some, None, refl, sym, ap, ◌∙◌, take, drop, arith, length, ◌≤◌, ◌<◌, ◌-◌, ◌+◌, ◌==◌, Bool, false, All, reverse, nat_lt, slice_index, slice_index_or}
 use Rattle.std.proofs.lemmas.Int.{ints}
-use Rattle.std.proofs.lemmas.List.{append-nil, take-append-drop, reverse-reverse, take_rest, length-drop, get_or-drop}
-use Rattle.std.specs.List.{IsDistinct}
+use Rattle.std.proofs.Math.Seq.{take-append_seam}
+use Rattle.std.proofs.lemmas.List.{append-nil, append_assoc, length-append, take-append-drop, reverse-reverse, take_rest, length-drop, get_or-drop, get_or_append_left}
+use Rattle.std.proofs.lemmas.Grind.{get_or_default_zero}
+use Rattle.std.specs.List.{IsDistinct, IsFirstBest}
 use Rattle.std.specs.List.Sorted.{IsPermutation}
 use Rattle.std.proofs.lemmas.List.Elements.{All-drop}
-use Rattle.std.proofs.lemmas.List.Sorted.{All-permutation, IsPermutation-reverse, length_permutation}
+use Rattle.std.proofs.lemmas.List.Sorted.{All-permutation, IsPermutation-append_comm, IsPermutation-reverse, length_permutation}
 use Rattle.std.proofs.lemmas.Bool.Decides.{nat_tests}
 use Rattle.std.proofs.lemmas.Map.Keys.{IsDistinct-IsPermutation, IsDistinct-from_apart, apart_from_distinct}
 use Rattle.constraint_cycles.specs.Edge.{Edges}
@@ -39,6 +41,31 @@ sum_of-append_comm edge (x ∷ xs) (y ∷ ys) =
 pub sum_of-from_place : (edge : Edges) (place : ℕ) (walk later : List ℕ) → later ≡ drop place walk ++ take place walk → sum_of edge later ≡ sum_of edge walk
 sum_of-from_place edge place walk later is =
     ap (sum_of edge) is ∙ sum_of-append_comm edge (drop place walk) (take place walk) ∙ ap (sum_of edge) (take-append-drop place walk)
+
+-- the beginning that is as long as two lists together
+pub take-two : (n : ℕ) (xs ys rest : List ℕ) → n ≡ length xs + length ys → take n (xs ++ (ys ++ rest)) ≡ xs ++ ys
+take-two n xs ys rest long =
+    ap (λ m. take m (xs ++ (ys ++ rest))) (long ∙ sym (length-append xs ys)) ∙ ap (take (length (xs ++ ys))) (sym (append_assoc xs ys rest)) ∙ take-append_seam (xs ++ ys) rest
+
+-- the groups from a place on, and then those before it, are the same groups
+pub turned-moved : (place : ℕ) (walk later : List ℕ) → later ≡ drop place walk ++ take place walk → IsPermutation walk later
+turned-moved place walk later is =
+    let moved = IsPermutation-append_comm (take place walk) (drop place walk) in
+    rw is (rw (take-append-drop place walk) at moved)
+
+-- and where they begin with the lowest one, none is lower than the first
+pub turned-lowest : (place : ℕ) (walk later : List ℕ) → later ≡ drop place walk ++ take place walk → IsFirstBest nat_lt walk (length walk) place →
+    All (λ g. slice_index later 0 ≤ g) later
+turned-lowest place walk later is best =
+    let short = length-drop place walk in
+    let within = best.0 in
+    let same : place + 0 ≡ place = omega arith in
+    let first : slice_index later 0 ≡ slice_index walk place =
+    ap (λ l. slice_index l 0) is ∙ get_or_append_left (drop place walk) (take place walk) 0 0 (omega (arith, short, within)) ∙ get_or-drop place walk 0 0 ∙ ap (λ i. slice_index walk i) same in
+    let lowest_at : (k d : ℕ) → k < length walk → nat_lt (slice_index_or walk k d) (slice_index_or walk place d) ≡ false → slice_index walk place ≤ slice_index_or walk k d =
+    λ k d below other. let same = get_or_default_zero walk place d within in grind (arith, nat_tests, other, same) in
+    let lowest : All (λ g. slice_index walk place ≤ g) walk = λ k d below. lowest_at k d below (best.1 k d below) in
+    rw first (All-permutation (λ g. slice_index walk place ≤ g) walk later (turned-moved place walk later is) lowest)
 
 pub IsWalk-permutation : (xs ys : List ℕ) → IsPermutation xs ys → IsWalk xs → IsWalk ys
 IsWalk-permutation xs ys moved walk =

@@ -1,18 +1,15 @@
 -- The sums of a system stay within its cycle; those from group 0 are its least starts.
-use Rattle.std.proofs.Common.{ℕ, List, ◌≡◌, ◌+◌, ◌-◌, ◌<◌, ◌≤◌, inl, inr, refl, sym, ◌∙◌, arith, Option, None, Some, IsSomeAnd, drop, replicate, ℤ, pos, ◌-ℤ◌, ◌≤ℤ◌, slice_index}
+use Rattle.std.proofs.Common.{ℕ, List, ◌≡◌, ◌+◌, ◌-◌, ◌<◌, ◌≤◌, inl, inr, refl, sym, ◌∙◌, arith, drop, replicate, ℤ, pos, ◌-ℤ◌, ◌≤ℤ◌, slice_index}
 use Rattle.std.proofs.lemmas.Bool.{cases_eq, cases_lt}
 use Rattle.std.proofs.lemmas.Int.{ints}
 use Rattle.std.proofs.lemmas.List.{ext_get_or, length-drop, length-replicate, get_or-drop, get_or-replicate}
 use Rattle.std.proofs.lemmas.List.Elements.{All-from_get_or}
+use Rattle.sig_base.proofs.Option.{some_and}
 use Rattle.constraint_cycles.specs.Edge.{Edges, longest_cycle}
 use Rattle.constraint_cycles.specs.Starts.{MeetsEdges}
 use Rattle.difference_system.specs.Edge.{IsSystem}
 use Rattle.difference_system.specs.Solution.{AreLeastStarts, AreStartsWithin}
 use Rattle.difference_system.specs.Sums.{asks_of, AreSums, AreModest, IsModest, IsSmall, IsStart, AreRowStarts}
-
-pub some_and : (o : Option ℤ) (P : ℤ → Type 0) → IsSomeAnd o P → (w : ℤ) × (o ≡ Some w) × P w
-some_and None P h = absurd h
-some_and (Some w) P h = (w, refl, h)
 
 pub modest_small : (w : ℤ) → IsModest w → IsSmall w
 modest_small w h = record { least = omega (arith, ints, h.least); greatest = omega (arith, ints, h.greatest) }

@@ -56,7 +56,7 @@ decisions_less : (m : Matrix) (d : Decision) (ds : List Decision) → 1 ≤ leng
 decisions_less m d [] some h = absurd (omega arith)
 decisions_less m d (below ∷ rest) some h = h.1
 
-levels_push : (levels : List Level) (l : Level) → decisions_of (levels ++ l ∷ []) ≡ decision_of l ∷ decisions_of levels
+pub levels_push : (levels : List Level) (l : Level) → decisions_of (levels ++ l ∷ []) ≡ decision_of l ∷ decisions_of levels
 levels_push levels l = rw (map-append decision_of levels (l ∷ [])) (reverse-append (map decision_of levels) (decision_of l ∷ []))
 
 next_in : (m : Matrix) (ds : List Decision) (d e : Decision) (k : ℕ) → AreDecisions m ds → suc k < length ds → IsNext (get_or ds (suc k) e) (get_or ds k d)

@@ -1,13 +1,13 @@
 -- The levels of a closure: one for the root order, and one for each decision.
-use Rattle.std.specs.Prelude.{ℕ, List, [], ◌∷◌, Some, ◌≡◌, ◌≢◌, ◌≤◌, All, map, reverse, slice_get, slice_set}
+use Rattle.std.specs.Prelude.{ℕ, List, [], ◌∷◌, Some, ◌≡◌, ◌≢◌, ◌≤◌, MatchOption, All, map, reverse, slice_get, slice_set}
 use Rattle.sig_base.specs.Times.{IsCycle}
 use Rattle.conflict_matrix.specs.Matrix.{Matrix}
 use Rattle.constraint_cycles.specs.Marks.{IsOrderFor, root_marks}
 use Rattle.constraint_cycles.specs.Order.{order_of, marks_of}
-use Rattle.constraint_cycles.specs.Edge.{AreNeeds, edge_weight}
+use Rattle.constraint_cycles.specs.Edge.{AreNeeds}
 use Rattle.constraint_cycles.specs.declared.mark.Mark.{Mark}
 use Rattle.constraint_cycles.specs.declared.mark.Mark.TheVariants.{Open}
-use Rattle.difference_system.specs.Sums.{IsSummed}
+use Rattle.difference_system.specs.Decision.{IsMetWith, IsClosedWith}
 use Rattle.difference_system.specs.declared.level.Level.{Level}
 
 -- the marks of an order, and the item that was decided last
@@ -38,10 +38,10 @@ AreDecisions m [] = ⊥
 AreDecisions m (decision ∷ []) = decision ≡ (root_marks m, 0)
 AreDecisions m (decision ∷ (below ∷ rest)) = IsNext below decision × AreDecisions m (below ∷ rest)
 
--- an order of these conflicts with the sums of its edges
+-- an order of these conflicts with the sums of its edges, or a walk that closes it
 pub record IsLevel (m : Matrix) (needs : List ℕ) (cycle : ℕ) (l : Level) : Type 0 where
   pub made : IsOrderFor m (order_of l.order)
-  pub summed : IsSummed m.groups (edge_weight m (marks_of l.order) needs cycle) l.sums
+  pub summed : MatchOption l.closing (IsMetWith m (marks_of l.order) needs cycle l.sums) (IsClosedWith m (marks_of l.order) needs cycle)
 
 -- one for the root order, one for each of 120 pairs, and one for each of 12 links
 abbrev pub most_levels : ℕ

@@ -11,3 +11,4 @@ pub mod Level
 pub mod Sums
 pub mod Spokes
 pub mod Ends
+pub mod Decision

@@ -1,5 +1,5 @@
 //! The closed walk that a trail ends with, from its lowest group on.
-ghost use Rattle.std.specs.Prelude.{[], ◌≡◌, ◌==◌, ◌<◌, ◌≤◌, length, drop, reverse, nat_lt, slice_index, All};
+ghost use Rattle.std.specs.Prelude.{[], ◌≡◌, ◌==◌, ◌<◌, ◌≤◌, ◌++◌, length, take, drop, reverse, nat_lt, slice_index, All};
 ghost use Rattle.std.specs.List.{IsFirstBest, IsDistinct};
 ghost use Rattle.std.specs.List.Sorted.{IsPermutation};
 ghost use Rattle.constraint_cycles.specs.Edge.{Edges};
@@ -37,29 +37,29 @@ fn lowest_place(groups: &[u8]) -> usize
     lowest
 }
 
-/// Lets the walk begin at its lowest group.
-fn begin_at_lowest(groups: &mut [u8])
-    requires { 0 < length groups.old }
-    ensures moved { IsPermutation groups.old groups.new }
-    ensures lowest { All (λ g. slice_index groups.new 0 ≤ g) groups.new }
-    ensures sum { (edge : Edges) → sum_of edge groups.new ≡ sum_of edge groups.old }
+/// The groups from a place on, and then those before it, at the beginning of 16 cells.
+fn turned(groups: &[u8], place: usize) -> [u8; 16]
+    requires few { length groups.now ≤ 16 }
+    requires place { place ≤ length groups.now }
+    ensures { take (length groups.now) result ≡ drop place groups.now ++ take place groups.now }
 {
-    groups.rotate_left(lowest_place(groups));
+    let mut cells = [0; 16];
+    let (behind, rest) = cells.split_at_mut(groups.len() - place);
+    behind.copy_from_slice(&groups[place..]);
+    rest[..place].copy_from_slice(&groups[..place]);
+    cells
 }
 
 /// The walk along the groups, from its lowest group on.
-fn from_lowest(groups: &[u8]) -> Walk
+pub fn from_lowest(groups: &[u8]) -> Walk
     requires walk { IsWalk groups.now }
     ensures walk { IsWalk result }
     ensures moved { IsPermutation groups.now result }
     ensures lowest { All (λ g. slice_index result 0 ≤ g) result }
     ensures sum { (edge : Edges) → sum_of edge result ≡ sum_of edge groups.now }
 {
-    let mut cells = [0; 16];
-    let walk = &mut cells[..groups.len()];
-    walk.copy_from_slice(groups);
-    begin_at_lowest(walk);
-    Walk::new(walk).unwrap()
+    let cells = turned(groups, lowest_place(groups));
+    Walk::new(&cells[..groups.len()]).unwrap()
 }
 
 /// The closed walk from a group of the trail to the trail's end and back, from its lowest group on.

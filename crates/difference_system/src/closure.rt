@@ -1,5 +1,5 @@
 //! The difference systems of the orders on the way down from the root order, with undo.
-ghost use Rattle.std.specs.Prelude.{ℕ, ◌≡◌, ◌≢◌, ◌≤◌, ◌↔◌, Some, length, IfOk, slice_get};
+ghost use Rattle.std.specs.Prelude.{ℕ, ◌≡◌, ◌≢◌, ◌≤◌, ◌↔◌, Some, length, IfOk, IfSome, IsNone, MatchOption, slice_get};
 ghost use Rattle.sig_base.specs.First.{IsFirst};
 ghost use Rattle.sig_base.specs.Times.{IsCycle};
 ghost use Rattle.conflict_matrix.specs.Conflicts.{matrix_of};
@@ -8,13 +8,16 @@ ghost use Rattle.constraint_cycles.specs.Closing.{IsUnserved};
 ghost use Rattle.constraint_cycles.specs.Edge.{AreNeeds};
 ghost use Rattle.constraint_cycles.specs.Order.{marks_of};
 ghost use Rattle.difference_system.specs.Closure.{begun, decided, undone, raised, top_of, MeetsTop, ClosesTop};
+ghost use Rattle.difference_system.specs.Decision.{IsClosedWith};
 ghost use Rattle.difference_system.specs.Level.{IsLevel};
 ghost use Rattle.difference_system.specs.Solution.{IsStarts, IfStarts, IfWalk, IsWalkOf, IsSolvable, AreLeastStarts, AreStartsWithin, IsClosingCircuit};
 
-use crate::level::{Level, renew};
+use crate::level::{Level, NO_EDGES, begin_ways, grown, renew};
 use crate::solved::Solved;
+use crate::sums::{Decision, Sums, decide_item};
+use crate::ways::Ways;
 use conflict_matrix::{Conflicts, pair_laws};
-use constraint_cycles::Mark;
+use constraint_cycles::{Mark, Walk, growth_law};
 use sig_base::NoMemory;
 use std::alloc::Global;
 use std::marker::Model;
@@ -30,6 +33,7 @@ pub struct Closure {
     needs: [u32; 16],
     cycle: u32,
     levels: Vec<Level>,
+    ways: Ways,
 }
 
 impl Model for Closure {
@@ -64,12 +68,16 @@ impl Closure {
         ensures { IfOk result (λ c. c ≡ begun (matrix_of conflicts.now) needs.now cycle) }
     {
         let mut levels = Vec::with_capacity(alloc, MOST_LEVELS)?;
-        levels.push(Level::root(conflicts, needs, cycle))?;
+        let root = Level::root(conflicts, needs, cycle);
+        let mut ways = Ways::none();
+        begin_ways(&mut ways, conflicts, &root.order, needs, cycle);
+        levels.push(root)?;
         Ok(Closure {
             conflicts: *conflicts,
             needs: *needs,
             cycle,
             levels,
+            ways,
         })
     }
 
@@ -87,14 +95,83 @@ impl Closure {
         requires solvable { IsSolvable (MeetsTop self.old) }
         ensures { self.new ≡ decided self.old item mark }
     {
+        if let Some(walk) = self.decide(item, mark) {
+            self.push_closed(item, mark, walk);
+        }
+    }
+
+    /// Decides an open item in an order that the walk closes.
+    fn push_closed(&mut self, item: usize, mark: Mark, walk: Walk)
+        requires was_open { slice_get (top_of self.old) item ≡ Some Open }
+        requires decides { mark ≢ Open }
+        requires closed { IsClosedWith self.old.conflicts (top_of (decided self.old item mark))
+            self.old.needs self.old.cycle walk }
+        ensures { self.new ≡ decided self.old item mark }
+    {
         pair_laws();
-        let level = self
-            .top()
-            .next(&self.conflicts, &self.needs, self.cycle, item, mark);
+        let order = self.top().order_with(item, mark);
+        let level = Level {
+            order,
+            item,
+            edges: NO_EDGES,
+            closing: Some(walk),
+            sums: Sums::of_rows([[0; 16]; 16]),
+        };
         match self.levels.push(level) {
             Ok(()) => {}
             Err(_) => unreachable!(),
         }
+    }
+
+    /// Decides an open item where starts meet the order that decides it; else gives a walk that closes that order, and
+    /// decides nothing.
+    pub fn decide(&mut self, item: usize, mark: Mark) -> Option<Walk>
+        requires was_open { slice_get (top_of self.old) item ≡ Some Open }
+        requires decides { mark ≢ Open }
+        ensures kept { IfSome result (λ _. self.new ≡ self.old) }
+        ensures closed { IfSome result (IsClosedWith self.old.conflicts
+            (top_of (decided self.old item mark)) self.old.needs self.old.cycle) }
+        ensures is_decided { IsNone result → self.new ≡ decided self.old item mark }
+        ensures solvable { IsNone result → IsSolvable (MeetsTop self.new) }
+    {
+        pair_laws();
+        growth_law();
+        let top = self.top();
+        if let Some(walk) = top.closing {
+            return Some(walk);
+        }
+        let order = top.order_with(item, mark);
+        let edges = match decide_item(
+            &self.ways,
+            &self.conflicts,
+            &top.order,
+            &order,
+            &self.needs,
+            self.cycle,
+            &top.sums,
+            item,
+            mark,
+        ) {
+            Decision::Closed(walk) => return Some(walk),
+            Decision::Open(edges) => edges,
+        };
+        let level = grown(
+            &self.conflicts,
+            &self.needs,
+            self.cycle,
+            &top.order,
+            &top.sums,
+            order,
+            item,
+            edges,
+        );
+        level.rests(&self.conflicts, &self.needs, self.cycle);
+        self.ways.put_both(edges);
+        match self.levels.push(level) {
+            Ok(()) => {}
+            Err(_) => unreachable!(),
+        }
+        None
     }
 
     /// Takes the last decision back.
@@ -102,7 +179,9 @@ impl Closure {
         requires { 2 ≤ length self.old.orders }
         ensures { self.new ≡ undone self.old }
     {
-        self.levels.pop();
+        if let Some(level) = self.levels.pop() {
+            self.ways.drop_both(level.edges);
+        }
     }
 
     /// Replaces the needs.
@@ -111,7 +190,22 @@ impl Closure {
         ensures { self.new ≡ raised self.old needs.now }
     {
         self.needs = *needs;
-        renew(&mut self.levels, &self.conflicts, needs, self.cycle);
+        renew(
+            &mut self.levels,
+            &mut self.ways,
+            &self.conflicts,
+            needs,
+            self.cycle,
+        );
+    }
+
+    /// A walk that closes the order of the last decision; `None` exactly where some starts meet it.
+    pub fn closing(&self) -> Option<Walk>
+        ensures { MatchOption result (IsSolvable (MeetsTop self.now)) (ClosesTop self.now) }
+    {
+        let top = self.top();
+        top.rests(&self.conflicts, &self.needs, self.cycle);
+        top.closing
     }
 
     /// Solves the order of the last decision, with the answer of `solve`: the same starts, or a walk of the same kind.

@@ -32,6 +32,7 @@ mod state;
 mod sums;
 mod system;
 mod trail;
+mod ways;
 
 pub use closure::Closure;
 pub use laws::least_starts_law;

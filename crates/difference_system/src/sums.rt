@@ -5,11 +5,13 @@
 //! on the old sums, before a cell is written; then no starts meet the edges. Every sum lies within a cycle, since the edges
 //! with group 0 keep all starts in one. The sums from group 0 are the least starts.
 mod decision;
+mod guess;
 mod matrix;
 mod root;
 mod starts;
+mod wave;
 
-pub use decision::decided_sums;
-pub use matrix::Sums;
+pub use decision::{Decision, decide_item};
+pub use matrix::{Sums, TwoEdges};
 pub use root::root_sums;
 pub use starts::row_starts;

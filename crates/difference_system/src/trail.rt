@@ -1,6 +1,6 @@
 //! The groups along which a start was found.
 ghost use Rattle.std.specs.Prelude.{◌≡◌, ◌==◌, ◌<◌, ◌≤◌, ◌∷◌, [], length, reverse};
-ghost use Rattle.std.specs.List.{list_any};
+ghost use Rattle.std.specs.List.{IsDistinct, list_any};
 
 use std::marker::Model;
 
@@ -35,6 +35,16 @@ impl Model for Trail {
 }
 
 impl Trail {
+    /// The trail of one group alone.
+    pub fn of(group: u8) -> Trail
+        ensures value { result ≡ group ∷ [] }
+        ensures once { IsDistinct (λ g h. g == h) result }
+    {
+        let mut cells = [0; 16];
+        cells[0] = group;
+        Trail { cells, len: 1 }
+    }
+
     /// The trail of group 0 alone.
     pub fn new() -> Trail
         ensures { result ≡ 0 ∷ [] }

@@ -1,6 +1,6 @@
 //! The sums as a matrix, and with two more edges.
-ghost use Rattle.std.specs.Prelude.{◌≡◌, ◌≤◌, ◌<◌, ℕ, ◌+ℤ◌, MatchOption};
-ghost use Rattle.difference_system.specs.Sums.{cell_of, sum_of, IsSmall, AreModest, IsGreatest, AreEdgesAmong, IsGreatestRound, MakesCycle, AreWithEdges};
+ghost use Rattle.std.specs.Prelude.{◌≡◌, ◌≤◌, ◌<◌, ℕ, ◌+ℤ◌};
+ghost use Rattle.difference_system.specs.Sums.{cell_of, sum_of, IsSmall, AreModest, IsGreatest, AreEdgesAmong, IsGreatestRound, MakesNoCycle, AreWithEdges};
 
 use sig_base::MOST_GROUPS;
 
@@ -70,8 +70,16 @@ impl Sums {
         Sums { rows }
     }
 
+    /// The sum in seconds from one group to another.
+    pub fn sum(&self, from: usize, to: usize) -> i16
+        requires from { from < 16 }
+        requires to { to < 16 }
+    {
+        self.rows[from][to]
+    }
+
     /// The greatest sum in seconds round a cycle of the two edges, or of one of them and the sum the other way.
-    fn greatest_round(&self, groups: usize, edges: TwoEdges) -> i16
+    pub fn greatest_round(&self, groups: usize, edges: TwoEdges) -> i16
         requires few { groups ≤ 16 }
         requires edges { AreEdgesAmong groups edges }
         requires sums { AreModest groups (sum_of self.now) }
@@ -82,18 +90,14 @@ impl Sums {
         greatest(edges.forth + edges.back, forth, back)
     }
 
-    /// The sums with two more edges; `None` where one of them makes a positive cycle.
-    pub fn with_edges(&self, groups: usize, edges: TwoEdges) -> Option<Sums>
+    /// The sums with two more edges, which make no positive cycle.
+    pub fn with_edges(&self, groups: usize, edges: TwoEdges) -> Sums
         requires few { groups ≤ 16 }
         requires edges { AreEdgesAmong groups edges }
         requires sums { AreModest groups (sum_of self.now) }
-        ensures { MatchOption result (MakesCycle (sum_of self.now) edges)
-            (λ new. AreWithEdges groups (sum_of self.now) edges (sum_of new)) }
+        requires no_cycle { MakesNoCycle (sum_of self.now) edges }
+        ensures { AreWithEdges groups (sum_of self.now) edges (sum_of result) }
     {
-        let round = self.greatest_round(groups, edges);
-        if round > 0 {
-            return None;
-        }
         let mut rows = self.rows;
         for group in 0..groups {
             let row = &self.rows[group];
@@ -103,6 +107,6 @@ impl Sums {
             let back = &self.rows[edges.from];
             rows[group] = greatest_row(row, by_forth, forth, by_back, back, groups);
         }
-        Some(Sums { rows })
+        Sums { rows }
     }
 }

@@ -1,5 +1,18 @@
-use Rattle.difference_system.proofs.IsClosingCircuit.{IsWalk-permutation}
+use Rattle.std.proofs.Common.{◌∙◌}
+use Rattle.difference_system.proofs.IsClosingCircuit.{sum_of-from_place, turned-lowest, turned-moved}
 use Rattle.difference_system.proofs.circuit.from_lowest.Goals as goal
 
-pub unwrap-requires : goal.unwrap-requires
-unwrap-requires c = c.new.ensures.exactly.1 (IsWalk-permutation _ _ c.begin_at_lowest.ensures.moved (rw c.copy_from_slice.ensures.after c.requires.walk))
+pub returns-clause-moved : goal.returns-clause-moved
+returns-clause-moved c =
+    let value = rw c.unwrap.ensures at c.new.ensures.value in
+    turned-moved c.lowest_place.result _ _ (value ∙ c.turned-cells.ensures)
+
+pub returns-clause-lowest : goal.returns-clause-lowest
+returns-clause-lowest c =
+    let value = rw c.unwrap.ensures at c.new.ensures.value in
+    turned-lowest c.lowest_place.result _ _ (value ∙ c.turned-cells.ensures) c.lowest_place.ensures
+
+pub returns-clause-sum : goal.returns-clause-sum
+returns-clause-sum c edge =
+    let value = rw c.unwrap.ensures at c.new.ensures.value in
+    sum_of-from_place edge c.lowest_place.result _ _ (value ∙ c.turned-cells.ensures)

@@ -47,9 +47,6 @@ loop-group-preserved c =
 
 pub returns : goal.returns
 returns c = record {
-  no_cycle = (c.greatest_round-round.result, c.greatest_round-round.ensures, omega (arith, ints, c.if-round-gt0.false));
+  no_cycle = c.requires.no_cycle;
   each = λ u v in_u in_v. c.loop-group.invariant.before u v (omega (arith, c.loop-group-test.false)) in_v;
 }
-
-pub returns-then-round-gt0 : goal.returns-then-round-gt0
-returns-then-round-gt0 c = (c.greatest_round-round.result, c.greatest_round-round.ensures, omega (arith, ints, c.if-round-gt0.true))
