@@ -1,9 +1,10 @@
 -- Calls of `advance`, one after another.
-use Rattle.std.proofs.Common.{ℕ, [], ◌∷◌, ◌≡◌, ◌+◌, ◌-◌, inl, inr, Result, Ok, Err, length, subst, arith}
+use Rattle.std.proofs.Common.{ℕ, [], ◌∷◌, ◌≡◌, ◌+◌, ◌-◌, ◌≤◌, inl, inr, Result, Ok, Err, length, take, sym, subst, ap, ◌∙◌, arith}
+use Rattle.std.proofs.lemmas.List.{take-take}
 use Rattle.std.proofs.lemmas.Bool.{cases_lt}
 use Rattle.sig_base.specs.declared.no_memory.NoMemory.{NoMemory}
 use Rattle.constraint_cycles.specs.Tree.{visited_count}
-use Rattle.cycle_orders.specs.Session.{SessionView, HasUnvisited, IsAdvance, IsWithin}
+use Rattle.cycle_orders.specs.Session.{SessionView, HasUnvisited, KeepsVisited, IsAdvance, IsWithin}
 use Rattle.cycle_orders.specs.Advances.{AdvancesLaw, spent_by, spent, last_of}
 use Rattle.cycle_orders.specs.declared.answer.Progress.{Progress}
 use Rattle.cycle_orders.specs.declared.answer.Progress.TheVariants as progress
@@ -26,6 +27,11 @@ advanced n nodes old new (Err fault) within h =
     let all = within.all (begins_unvisited nodes old new (Err fault) h (λ e. cc)) in
     let more = h.rises in
     record { most = omega arith; all = λ left. omega arith }
+
+-- what is kept by a call and by those before it
+pub keeps_on : (first middle last : SessionView) → first.visited ≤ middle.visited → KeepsVisited first middle → KeepsVisited middle last → KeepsVisited first last
+keeps_on first middle last rises before own =
+    sym (take-take first.visited middle.visited last.tree rises) ∙ ap (take first.visited) own ∙ take-take first.visited middle.visited middle.tree rises ∙ before
 
 pub advances_law : AdvancesLaw
 advances_law v n [] within h = let same : n ≡ n + 0 = omega arith in subst (λ k. IsWithin k v) same within

@@ -2,21 +2,17 @@
 use Rattle.std.proofs.Common.{ℕ, List, [], ◌∷◌, ◌++◌, ◌≡◌, ◌+◌, ◌-◌, ◌*◌, ◌<◌, ◌≤◌, Option, None, Some, length, length-append, inl, inr, subst, sym, refl, ◌∙◌, arith}
 use Rattle.std.specs.Prelude.{All, IfSome}
 use Rattle.std.proofs.lemmas.Bool.{cases_lt}
-use Rattle.std.proofs.lemmas.List.Sums.{sum_by_push, count_by-le-length}
-use Rattle.std.proofs.Math.Nat.{mul-le-mul_right}
+use Rattle.std.proofs.lemmas.List.Sums.{sum_by_push}
 use Rattle.sig_base.specs.Ratio.{fraction_of}
 use Rattle.sig_base.specs.declared.ratio.Ratio.{Ratio}
 use Rattle.sig_base.specs.declared.target.Target.{Target}
 use Rattle.sig_base.specs.declared.target.Target.TheVariants.{Reach, Beat}
 use Rattle.sig_base.proofs.Fraction.{at_most}
 use Rattle.conflict_matrix.specs.Pairs.{tree_cover_of}
-use Rattle.constraint_cycles.specs.Marks.{root_marks}
-use Rattle.constraint_cycles.specs.Tree.{DecidesOpen, IsSound, IsVisited, IsWholeTree, visited_count, is_visited}
+use Rattle.constraint_cycles.specs.Tree.{IsVisited, IsWholeTree, visited_count}
 use Rattle.constraint_cycles.specs.declared.mark.Mark.{Mark}
 use Rattle.constraint_cycles.specs.declared.node.Node.{Node}
-use Rattle.constraint_cycles.specs.declared.node.Node.TheVariants.{Split, Closed, Unvisited}
-use Rattle.constraint_cycles.proofs.NodeCounts.{node_count_law, root_count_law}
-use Rattle.constraint_cycles.proofs.Trees.{all_nodes}
+use Rattle.constraint_cycles.proofs.NodeCounts.{root_count_law}
 use Rattle.junction_model.specs.Covers.{cover_of}
 use Rattle.junction_model.specs.Junction.{JunctionView}
 use Rattle.junction_model.specs.Rules.{IsJunction}
@@ -45,21 +41,9 @@ use Rattle.cycle_orders.specs.declared.answer.Mode.{Mode}
 use Rattle.cycle_orders.proofs.JoinedLean.{AreBeatenBelow, lean_lesser, lean_outlasts}
 use Rattle.cycle_orders.proofs.JoinedTargets.{over_all, of_plan, some_cycle, meets_lesser, reached_beside, beaten_beside, beaten_own, next_is, next_above, least_below, risen_before}
 use Rattle.cycle_orders.proofs.EachTree.{push_tree, tree_of, map_trees, all_trees}
+use Rattle.cycle_orders.proofs.VisitedCounts.{few_visited, few_more, below_cover}
 
 module _ (junction : JunctionView) where
-  decides : (target : Target) (cycle : ℕ) (marks : List Mark) (node : Node) → IsSound junction.conflicts (needs_of junction all_lanes target cycle) cycle marks node → DecidesOpen marks node
-  decides target cycle marks (Split item) sound = sound
-  decides target cycle marks (Closed walk) sound = tt
-  decides target cycle marks Unvisited sound = tt
-
-  -- a tree has no more visited nodes than a tree can have nodes
-  few_visited : (target : Target) (cycle : ℕ) (nodes : List Node) → IsWholeTree junction.conflicts nodes → IsSoundFor junction target cycle nodes →
-      visited_count nodes ≤ tree_cover_of junction.conflicts
-  few_visited target cycle nodes whole sound =
-      let root = root_marks junction.conflicts in
-      let open_splits = all_nodes _ DecidesOpen (decides target cycle) (root ∷ []) nodes sound in
-      omega (arith, count_by-le-length is_visited nodes, node_count_law root nodes whole open_splits, root_count_law junction.conflicts)
-
   module _ (least : Ratio) where
     closes_cycle : (target : Target) (cycle : ℕ) (nodes : List Node) → IsEndedTree junction least target cycle nodes → ClosesCycleFor junction all_lanes target cycle nodes
     closes_cycle target cycle nodes ended = record { whole = ended.tree.whole; visited = ended.visited; sound = ended.tree.sound }
@@ -135,17 +119,6 @@ module _ (junction : JunctionView) (least : Ratio) (plan : Option PlanView) (mul
       (risen_before junction joined.rules least plan multiple cycle c p own joined.best found.meets_asked is (omega (arith, below, joined.below, found.of_order.lasts))))
       ended) joined.trees
 
--- sums of nodes
-few_more : (n k seen more cover : ℕ) → k ≡ n + 1 → seen ≤ n * cover → more ≤ cover → seen + more ≤ k * cover
-few_more n k seen more cover is few own =
-    let risen : (n + 1) * cover ≤ k * cover = mul-le-mul_right cover (omega (arith, is)) in
-    omega (arith, risen, few, own)
-
-below_cover : (n cycles seen more cover : ℕ) → n + 1 ≤ cycles → seen ≤ n * cover → more < cover → seen + more < cycles * cover
-below_cover n cycles seen more cover within few own =
-    let risen : (n + 1) * cover ≤ cycles * cover = mul-le-mul_right cover within in
-    omega (arith, risen, few, own)
-
 module _ (junction : JunctionView) (least : Ratio) (rules : IsJunction junction) (plan : Option PlanView) (multiple : Ratio) (cycle : ℕ) (forest : List (List Node))
     (below : junction.least_cycle + length forest ≡ cycle) (few : visited_in forest ≤ length forest * tree_cover_of junction.conflicts)
     (trees : EachTreeOf junction (λ c. IsEndedTree junction least (target_with plan multiple c) c) forest) (nodes : List Node) where
@@ -154,7 +127,7 @@ module _ (junction : JunctionView) (least : Ratio) (rules : IsJunction junction)
       IsJoined junction least plan multiple (cycle + 1) (forest ++ nodes ∷ [])
   joined_more best ended =
       let more = length-append forest (nodes ∷ []) in
-      let count = few_visited junction (target_with plan multiple cycle) cycle nodes ended.tree.whole ended.tree.sound in
+      let count = few_visited junction.conflicts _ cycle nodes ended.tree.whole ended.tree.sound in
       record {
         rules = rules;
         best = best;

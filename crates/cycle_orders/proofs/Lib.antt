@@ -11,10 +11,13 @@ pub mod SearchTrees
 pub mod Standings
 pub mod TargetOrders
 pub mod Trimmed
+pub mod FoundIn
 pub mod TrimSteps
 pub mod Finishes
 pub mod EachTree
+pub mod VisitedCounts
 pub mod JoinedTargets
 pub mod JoinedLean
 pub mod JoinedTrees
 pub mod JoinedAnswers
+pub mod FoundAmong

@@ -12,13 +12,12 @@ use Rattle.constraint_cycles.specs.Marks.{OrderView, IsOrderFor, IsDecided, root
 use Rattle.constraint_cycles.specs.Starts.{MeetsOrder}
 use Rattle.constraint_cycles.specs.Tree.{orders_below}
 use Rattle.constraint_cycles.specs.TreeShape.{is_open}
-use Rattle.constraint_cycles.specs.WalkLaws.{DecisionLaw}
 use Rattle.constraint_cycles.specs.declared.mark.Mark.{Mark}
 use Rattle.constraint_cycles.specs.declared.mark.Mark.TheVariants.{Open, First}
 use Rattle.constraint_cycles.specs.declared.node.Node.TheVariants.{Split}
 use Rattle.constraint_cycles.proofs.NodeCounts.{decided_count}
 use Rattle.difference_system.specs.Closure.{ClosureView, top_of, MeetsTop, ClosesTop, decided}
-use Rattle.difference_system.specs.Solution.{IsClosingCircuit, IfWalk}
+use Rattle.difference_system.specs.Solution.{IsSolvable, IsClosingCircuit, IfWalk}
 use Rattle.difference_system.specs.declared.solved.Solved.{Solved}
 use Rattle.difference_system.specs.declared.solved.Solved.TheVariants.{Starts, Walk}
 use Rattle.cycle_orders.specs.Due.{IsDue, IsOpenItem}
@@ -75,6 +74,27 @@ module _ (c : ClosureView) (items : List ℕ) (o : OrderView) (depth : ℕ) (sta
     pub closes_top : ClosesTop c ≡ ClosesHere (place_of c items o.marks depth standing)
     closes_top = ap (λ marks. λ walk. Closes c.conflicts marks c.needs c.cycle walk) (top_at ∙ sym here_at)
 
+  -- at the root order it stands there
+  pub top_root : depth ≡ 0 → top_of c ≡ o.marks
+  top_root none = ap (λ l. slice_index_or l 0 []) (h.orders ∙ ap (closure_orders_at items standing o.marks) none ∙ alone standing)
+    where
+      alone : (s : Standing) → closure_orders_at items s o.marks 0 ≡ o.marks ∷ []
+      alone Above = refl
+      alone At = refl
+      alone Past = refl
+
+  -- a closure of the same question whose last order is the one at hand
+  module _ (d : ClosureView) (conflicts : d.conflicts ≡ c.conflicts) (needs : d.needs ≡ c.needs) (cycle : d.cycle ≡ c.cycle) (top : top_of d ≡ o.marks)
+      (some : 1 ≤ length (coming_at items standing o.marks depth)) where
+    first_is : order_at (place_of c items o.marks depth standing) ≡ o.marks
+    first_is = ap (λ l. slice_index_or l 0 []) (at_hand items standing o.marks depth some)
+
+    pub closed_here : (walk : List ℕ) → ClosesTop d walk → ClosesHere (place_of c items o.marks depth standing) walk
+    closed_here walk closes = rw first_is (rw (conflicts, needs, cycle, top) at closes)
+
+    pub solvable_here : IsSolvable (MeetsTop d) → IsSolvable (MeetsHere (place_of c items o.marks depth standing))
+    solvable_here solvable = (solvable.0, record { first = solvable.1.first; meets = rw first_is (rw (conflicts, needs, cycle, top) at solvable.1.meets) })
+
   -- it stands above, and the order isn't the root order
   module _ (other : standing ≢ At) (some : 1 ≤ depth) (item : ℕ) (at : slice_get items (depth - 1) ≡ Some item) where
     above_orders : c.orders ≡ orders_above items o.marks depth
@@ -102,14 +122,9 @@ module _ (c : ClosureView) (items : List ℕ) (o : OrderView) (depth : ℕ) (sta
     pub inserted : (mark : Mark) → slice_get o.marks item ≡ Some mark → (decided c item mark).orders ≡ orders_along items o.marks depth
     inserted mark is = ap (λ marks. marks ∷ c.orders) (set_top mark is) ∙ ap (λ l. o.marks ∷ l) above_orders ∙ sym (along_above items o.marks depth some)
 
-    -- a walk that closes the order above closes the one at hand
-    pub closed_above : DecisionLaw → (walk : List ℕ) → ClosesTop c walk → 1 ≤ length (coming_at items standing o.marks depth) →
-        ClosesHere (place_of c items o.marks depth standing) walk
-    closed_above decision walk closes here =
-        let d = last_decided c.conflicts items o.marks depth item some at h.way in
-        let closed = decision c.conflicts (top_of c) c.needs c.cycle item d.mark walk item_open closes in
-        let first = ap (λ l. slice_index_or l 0 []) (at_hand items standing o.marks depth here) in
-        subst (λ marks. Closes c.conflicts marks c.needs c.cycle walk) (set_top d.mark d.marked ∙ sym first) closed
+    -- what is said of the order with the item decided is said of the one at hand
+    pub top_decided : (mark : Mark) → slice_get o.marks item ≡ Some mark → top_of (decided c item mark) ≡ o.marks
+    top_decided mark is = set_top mark is
 
   -- the next item, an open one, is decided, and the closure stays
   module _ (entered : standing ≡ At) (item : ℕ) (at : slice_get items depth ≡ Some item)

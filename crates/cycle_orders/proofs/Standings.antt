@@ -1,12 +1,17 @@
 -- How a session stands after a visit.
-use Rattle.std.proofs.Common.{◌≡◌, ℕ, ◌+◌, ◌<◌, ◌≤◌, ◌↔◌, List, [], ◌∷◌, Option, None, Some, length, take, refl, sym, subst, ap, ◌∙◌, arith, drop, slice_index, slice_index_or}
+use Rattle.std.proofs.Common.{◌≡◌, ℕ, ◌+◌, ◌<◌, ◌≤◌, ◌↔◌, inl, List, [], ◌∷◌, ◌++◌, Option, None, Some, length, take, refl, sym, subst, ap, ◌∙◌, arith, drop, length-append, slice_index, slice_index_or}
+use Rattle.std.specs.Prelude.{IfSome}
+use Rattle.std.proofs.lemmas.List.{take_more_set, take-append-le}
 use Rattle.std.proofs.lemmas.Option.{none-some}
 use Rattle.sig_base.specs.declared.target.Target.{Target}
+use Rattle.constraint_cycles.specs.Marks.{root_marks}
 use Rattle.constraint_cycles.specs.StartsLaws.{AgreeingLaw}
 use Rattle.constraint_cycles.specs.Tree.{visited_count}
 use Rattle.constraint_cycles.specs.WalkLaws.{ExclusionLaw, GreaterNeedsLaw}
 use Rattle.constraint_cycles.specs.declared.mark.Mark.{Mark}
 use Rattle.constraint_cycles.specs.declared.node.Node.{Node}
+use Rattle.constraint_cycles.specs.declared.node.Node.TheVariants.{Split, Closed, Unvisited}
+use Rattle.constraint_cycles.proofs.Visits.{visits_more}
 use Rattle.constraint_cycles.proofs.NodeCounts.{visited_count_law}
 use Rattle.least_greens.specs.ClosingLaws.{RisingWalkLaw, PassedPlanLaw}
 use Rattle.least_greens.specs.ForTarget.{needs_of, ClosesFor}
@@ -14,7 +19,7 @@ use Rattle.least_greens.specs.Laws.{TransitiveLaw}
 use Rattle.least_greens.specs.Targets.{IsNotAbove}
 use Rattle.plan_model.specs.FittedPlan.{junction_of, fitted_plan_of}
 use Rattle.plan_model.specs.declared.fitted_plan.FittedPlan.{FittedPlan}
-use Rattle.cycle_orders.specs.Answer.{plan_in, IsCarried}
+use Rattle.cycle_orders.specs.Answer.{plan_in, IsFoundIn, IsCarried}
 use Rattle.cycle_orders.specs.DueItems.{AreDueItems}
 use Rattle.cycle_orders.specs.Lean.{IsUnclosed}
 use Rattle.cycle_orders.specs.Place.{PlaceView, IsMoved, order_at, coming_later, MeetsHere, ClosesHere}
@@ -28,11 +33,22 @@ use Rattle.cycle_orders.specs.declared.visit.Visited.{Visited}
 use Rattle.cycle_orders.specs.declared.visit.Visited.TheVariants.{Closed as ClosedBy, Split as SplitAt, Full}
 use Rattle.cycle_orders.specs.declared.answer.Mode.{Mode}
 use Rattle.cycle_orders.specs.declared.answer.Mode.TheVariants as mode
+use Rattle.cycle_orders.proofs.FoundIn.{found_more}
 use Rattle.cycle_orders.proofs.SearchTrees.{tree_length, tree_visited, tree_closed, tree_split}
 
 pub first_and_rest : (coming : List (List Mark)) → 1 ≤ length coming → coming ≡ slice_index_or coming 0 [] ∷ drop 1 coming
 first_and_rest [] some = absurd (omega arith)
 first_and_rest (marks ∷ rest) some = refl
+
+-- the nodes that were visited before, and the one that is visited now
+taken_closed : (old new : PlaceView) (tree grown : List Node) (k : ℕ) → k < length tree → (visit : IsClosing old new tree grown k) → take (k + 1) grown ≡ take k tree ++ Closed visit.walk ∷ []
+taken_closed old new tree grown k below visit = ap (take (k + 1)) visit.set ∙ take_more_set tree k (Closed visit.walk) below
+
+taken_split : (old new : PlaceView) (tree grown : List Node) (k : ℕ) → k < length tree → (visit : IsSplitting old new tree grown k) → take (k + 1) grown ≡ take k tree ++ Split visit.item ∷ []
+taken_split old new tree grown k below visit =
+    let longer = tree ++ Unvisited ∷ Unvisited ∷ [] in
+    ap (take (k + 1)) visit.set ∙ take_more_set longer k (Split visit.item) (omega (arith, below, length-append tree (Unvisited ∷ Unvisited ∷ [])))
+    ∙ ap (λ l. l ++ Split visit.item ∷ []) (take-append-le k tree (Unvisited ∷ Unvisited ∷ []) (omega (arith, below)))
 
 module _ (s : SearchView) where
   pub needs_moved : (t : Target) (old new : PlaceView) (orders : List (List Mark)) → HasNeedsOf s t old → IsMoved old new orders → HasNeedsOf s t new
@@ -120,15 +136,19 @@ module _ (s : SearchView) where
     there : 1 ≤ length old.coming
     there = some_coming t old tree k plan way below
 
+    -- what was found stays
+    still_found : (grown : List Node) (node : Node) → take (k + 1) grown ≡ take k tree ++ node ∷ [] → IfSome (plan_in plan) (IsFoundIn s.junction s.lanes (take (k + 1) grown))
+    still_found grown node is = rw is (found_more s.junction s.lanes (take k tree) (node ∷ []) (plan_in plan) way.found)
+
     -- the node is Closed or Split
     pub stands_on : PassedPlanLaw → GreaterNeedsLaw → AgreeingLaw → ExclusionLaw → IsNotAbove t t → (new : PlaceView) (grown : List Node) (v : Visited) → ((starts : List ℕ) → v ≡ Full starts → ⊥) →
         IsVisit old new tree grown k v → IsStandingIn s m t new grown (k + 1) plan
     stands_on passed greater agreeing exclusion itself new grown ClosedBy other visit =
         let next = way_closed rising some old new tree grown k there transitive greater t t way.tree_is itself way.place visit in
-        goes_on m t new grown (k + 1) plan (record { place = next.0; tree_is = next.1; running = way.running; carried = way.carried }) (none_yet m t old tree k plan h below)
+        goes_on m t new grown (k + 1) plan (record { place = next.0; tree_is = next.1; running = way.running; carried = way.carried; found = still_found grown (Closed visit.walk) (taken_closed old new tree grown k below visit) }) (none_yet m t old tree k plan h below)
     stands_on passed greater agreeing exclusion itself new grown SplitAt other visit =
         let next = way_split rising some old new tree grown k there passed agreeing exclusion t way.tree_is way.place visit in
-        goes_on m t new grown (k + 1) plan (record { place = next.0; tree_is = next.1; running = way.running; carried = way.carried }) (none_yet m t old tree k plan h below)
+        goes_on m t new grown (k + 1) plan (record { place = next.0; tree_is = next.1; running = way.running; carried = way.carried; found = still_found grown (Split visit.item) (taken_split old new tree grown k below visit) }) (none_yet m t old tree k plan h below)
     stands_on passed greater agreeing exclusion itself new grown (Full starts) other visit = absurd (other starts refl)
 
     -- its plan ends the search
@@ -156,7 +176,23 @@ module _ (s : SearchView) where
         let coming : raised.coming ≡ old.coming = is.coming ∙ same in
         let tree_there : IsTreeSoFar s t tree k raised.coming = subst (IsTreeSoFar s t tree k) (sym coming) way.tree_is in
         let next = way_closed rising some raised new tree grown k (omega (arith, ap length coming, there)) transitive greater t r.target tree_there is.risen is.place visit in
-        rw best (record { place = next.0; tree_is = next.1; running = is.running; carried = is.plan })
+        let first : IsTreeSoFar s t tree k (order_at raised ∷ coming_later raised) =
+        subst (IsTreeSoFar s t tree k) (first_and_rest raised.coming (omega (arith, ap length coming, there))) tree_there in
+        rw best (record {
+          place = next.0;
+          tree_is = next.1;
+          running = is.running;
+          carried = is.plan;
+          found = record {
+            marks = order_at raised;
+            walk = visit.walk;
+            closed = rw (
+              taken_closed raised new tree grown k below visit,
+              visits_more (take k tree) (root_marks s.junction.conflicts ∷ []) (coming_later raised) (order_at raised) (Closed visit.walk) [] first.searched.leads,
+            ) (inl refl);
+            best = is.own;
+          };
+        })
 
   pub first_plan : (m : Mode) (t : Target) (p : PlaceView) (tree : List Node) (k : ℕ) (f : FittedPlan) → m ≡ mode.First → IsStandingIn s m t p tree k (Some f) → HasFirstPlan s tree k f
   first_plan mode.First t p tree k f is h = h

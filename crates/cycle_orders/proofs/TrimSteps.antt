@@ -22,6 +22,7 @@ use Rattle.cycle_orders.specs.Trimmed.{StandsFor, StandFor, IsTrimmed}
 use Rattle.cycle_orders.specs.Trimming.{IsReading, StandsHere, IsTrimStep, IsTrimming, behind_trees}
 use Rattle.cycle_orders.proofs.Standings.{first_and_rest, closes_for, unclosed_for}
 use Rattle.cycle_orders.proofs.Trimmed.{leads_rest, all_rest, stand_more}
+use Rattle.cycle_orders.proofs.VisitedCounts.{decides_open}
 
 -- so many trees, and what stands behind them
 behind_joined : (first second : List Node) (xs : List (List Mark)) → Leads xs first [] → behind_trees (length xs) (first ++ second) ≡ second
@@ -185,16 +186,12 @@ trimming_begun s nodes p asks coming closes = record {
   reading = rw coming (record {
     whole = closes.whole;
     visited = closes.visited;
-    decides = all_nodes (IsSound s.junction.conflicts (needs_of s.junction s.lanes s.target s.cycle) s.cycle) DecidesOpen decides_open (root_marks s.junction.conflicts ∷ []) nodes closes.sound;
+    decides = all_nodes (IsSound s.junction.conflicts (needs_of s.junction s.lanes s.target s.cycle) s.cycle) DecidesOpen
+        (decides_open s.junction.conflicts (needs_of s.junction s.lanes s.target s.cycle) s.cycle) (root_marks s.junction.conflicts ∷ []) nodes closes.sound;
   });
   stand = refl;
   leads = sym coming;
 }
-  where
-    decides_open : (marks : List Mark) (node : Node) → IsSound s.junction.conflicts (needs_of s.junction s.lanes s.target s.cycle) s.cycle marks node → DecidesOpen marks node
-    decides_open marks (Split item) h = h
-    decides_open marks (Closed walk) h = tt
-    decides_open marks Unvisited h = tt
 
 no_node : (orders : List (List Mark)) → Leads orders [] [] → orders ≡ []
 no_node orders leads = leads

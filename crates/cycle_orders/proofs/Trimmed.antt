@@ -1,11 +1,12 @@
 -- What trimming leaves closes the cycle, and is lean.
-use Rattle.std.proofs.Common.{◌≡◌, ℕ, ◌≤◌, inl, inr, List, [], ◌∷◌, ◌++◌, refl, sym, ap, ◌∙◌, append-nil, append_assoc}
+use Rattle.std.proofs.Common.{◌≡◌, ℕ, ◌+◌, ◌≤◌, cond, arith, inl, inr, List, [], ◌∷◌, ◌++◌, refl, sym, ap, ◌∙◌, append-nil, append_assoc}
 use Rattle.std.specs.Prelude.{⊤, All}
 use Rattle.std.proofs.lemmas.List.Elements.{All-cons, All-nil}
+use Rattle.std.proofs.lemmas.List.Sums.{sum_by-append, sum_by-cons}
 use Rattle.sig_base.specs.declared.lane_set.LaneSet.{LaneSet}
 use Rattle.sig_base.specs.declared.target.Target.{Target}
 use Rattle.constraint_cycles.specs.Marks.{root_marks}
-use Rattle.constraint_cycles.specs.Tree.{Leads, AllNodes, IsSound, IsVisited, orders_below}
+use Rattle.constraint_cycles.specs.Tree.{Leads, AllNodes, IsSound, IsVisited, is_visited, visited_count, orders_below}
 use Rattle.constraint_cycles.specs.Visit.{Visit, visits, EachVisit}
 use Rattle.constraint_cycles.specs.declared.mark.Mark.{Mark}
 use Rattle.constraint_cycles.specs.declared.node.Node.{Node}
@@ -109,8 +110,38 @@ module _ (junction : JunctionView) (lanes : LaneSet) (target : Target) (cycle : 
   all_visited (node ∷ nodes) (marks ∷ coming) older stand =
       All-cons IsVisited node nodes (visited_stands marks node stand.0 stand.3) (all_visited nodes (orders_below marks node ++ coming) stand.1 stand.4)
 
+abbrev counts : Node → ℕ
+counts node = cond (is_visited node) 1 0
+
+counted_both : (first second : List Node) → visited_count (first ++ second) ≡ visited_count first + visited_count second
+counted_both = sum_by-append counts
+
+counted_first : (node : Node) (nodes : List Node) → visited_count (node ∷ nodes) ≡ counts node + visited_count nodes
+counted_first = sum_by-cons counts
+
+counts_one : (node : Node) → counts node ≤ 1
+counts_one (Split item) = omega arith
+counts_one (Closed walk) = omega arith
+counts_one Unvisited = omega arith
+
+-- a node counts at most as much as the part for which it stands
+module _ (junction : JunctionView) (lanes : LaneSet) (target : Target) (cycle : ℕ) where
+  counted_part : (marks : List Mark) (node : Node) (part : List Node) → StandsFor junction lanes target cycle marks node part → 1 ≤ visited_count part
+  counted_part marks (Split item) part stands = rw (stands.0, counted_first (Split item) []) (omega arith)
+  counted_part marks (Closed walk) part (inl is) = rw (is, counted_first (Closed walk) []) (omega arith)
+  counted_part marks (Closed walk) part (inr own) = rw (own.0.joined, counted_first (Split own.0.item) (own.0.first ++ own.0.second)) (omega arith)
+  counted_part marks Unvisited part stands = absurd stands
+
+  pub trimmed_no_more : (nodes : List Node) (coming : List (List Mark)) (older : List Node) → StandFor junction lanes target cycle coming nodes older → visited_count nodes ≤ visited_count older
+  trimmed_no_more [] coming older stand = omega arith
+  trimmed_no_more (node ∷ nodes) [] older stand = absurd stand
+  trimmed_no_more (node ∷ nodes) (marks ∷ coming) older stand =
+      let some = counted_part marks node stand.0 stand.3 in
+      let more = trimmed_no_more nodes (orders_below marks node ++ coming) stand.1 stand.4 in
+      rw (stand.2, counted_both stand.0 stand.1, counted_first node nodes) (omega (arith, counts_one node, some, more))
+
 -- each node is among the visits
-among_later : (nodes : List Node) (coming : List (List Mark)) (before : List Visit) (marks : List Mark) (node : Node) → IsAmong marks node before → IsAmong marks node (visits coming nodes before)
+pub among_later : (nodes : List Node) (coming : List (List Mark)) (before : List Visit) (marks : List Mark) (node : Node) → IsAmong marks node before → IsAmong marks node (visits coming nodes before)
 among_later [] coming before marks node among = among
 among_later (n ∷ nodes) [] before marks node among = among
 among_later (n ∷ nodes) (first ∷ coming) before marks node among = among_later nodes (orders_below first n ++ coming) ((first, n) ∷ before) marks node (inr among)

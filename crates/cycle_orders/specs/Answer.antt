@@ -1,12 +1,15 @@
 -- What a search answers.
-use Rattle.std.specs.Prelude.{ℕ, List, [], ◌∷◌, ◌++◌, Option, None, Some, ◌≡◌, ◌+◌, ◌<◌, ⊤, All, replicate}
+use Rattle.std.specs.Prelude.{ℕ, List, [], ◌∷◌, ◌++◌, Option, None, Some, ◌≡◌, ◌+◌, ◌<◌, ⊤, All, IfSome, replicate}
+use Rattle.sig_base.specs.declared.lane_set.LaneSet.{LaneSet}
 use Rattle.sig_base.specs.declared.target.Target.{Target}
 use Rattle.conflict_matrix.specs.Pairs.{tree_cover_of}
 use Rattle.constraint_cycles.specs.Marks.{root_marks}
 use Rattle.constraint_cycles.specs.Tree.{AllNodes, IsSound, IsVisited, IsWholeTree, visited_count}
+use Rattle.constraint_cycles.specs.Visit.{visits}
 use Rattle.constraint_cycles.specs.declared.mark.Mark.{Mark}
 use Rattle.constraint_cycles.specs.declared.node.Node.{Node}
-use Rattle.constraint_cycles.specs.declared.node.Node.TheVariants.{Unvisited}
+use Rattle.constraint_cycles.specs.declared.node.Node.TheVariants.{Closed, Unvisited}
+use Rattle.junction_model.specs.Junction.{JunctionView}
 use Rattle.least_greens.specs.ForTarget.{needs_of, ClosesCycleFor}
 use Rattle.plan_model.specs.FittedPlan.{junction_of, fitted_plan_of}
 use Rattle.plan_model.specs.Multiplier.{MeetsTarget}
@@ -14,8 +17,9 @@ use Rattle.plan_model.specs.SignalPlan.{PlanView}
 use Rattle.plan_model.specs.declared.fitted_plan.FittedPlan.{FittedPlan}
 use Rattle.cycle_orders.specs.Due.{SplitsDue}
 use Rattle.cycle_orders.specs.Lean.{IsLeanFor}
-use Rattle.cycle_orders.specs.Search.{SearchView, IsRunning, IsPlanFor, IsEarlierPlan}
+use Rattle.cycle_orders.specs.Search.{SearchView, IsRunning, IsAtOwnRatio, IsPlanFor, IsEarlierPlan}
 use Rattle.cycle_orders.specs.SearchedNodes.{AreSearched}
+use Rattle.cycle_orders.specs.Trimmed.{IsAmong}
 use Rattle.cycle_orders.specs.declared.answer.CycleAnswer.{CycleAnswer}
 use Rattle.cycle_orders.specs.declared.answer.CycleAnswer.TheVariants as answer
 use Rattle.cycle_orders.specs.declared.answer.Mode.TheVariants as mode
@@ -67,6 +71,14 @@ pub record IsBestPlan (s : SearchView) (f : FittedPlan) : Type 0 where
   pub marks : List Mark
   pub plan : IsPlanFor s for_target marks (fitted_plan_of f)
 
+-- the plan was found in this tree: it is that of a Closed node's order, which decides each item, for reaching its own
+-- multiplier over the lanes; so its starts, with its own greens, meet that order, and the tree has passed it
+pub record IsFoundIn (junction : JunctionView) (lanes : LaneSet) (nodes : List Node) (p : PlanView) : Type 0 where
+  pub marks : List Mark
+  pub walk : List ℕ
+  pub closed : IsAmong marks (Closed walk) (visits (root_marks junction.conflicts ∷ []) nodes [])
+  pub best : IsAtOwnRatio junction lanes marks p
+
 abbrev pub IsCarried : SearchView → Option FittedPlan → Type 0
 IsCarried s None = ⊤
 IsCarried s (Some f) = IsBestPlan s f
@@ -82,6 +94,7 @@ pub record IsEnded (s : SearchView) (nodes : List Node) (plan : Option FittedPla
   pub tree : IsClosedTree s target nodes
   pub excluded : IsExcluded s target
   pub carried : IsCarried s plan
+  pub found : IfSome (plan_in plan) (IsFoundIn s.junction s.lanes nodes)
 
 -- the search was stopped: the tree's Closed nodes close for the running target
 pub record IsStopped (s : SearchView) (nodes : List Node) (plan : Option FittedPlan) : Type 0 where
@@ -89,6 +102,7 @@ pub record IsStopped (s : SearchView) (nodes : List Node) (plan : Option FittedP
   pub running : IsRunning s (plan_in plan) target
   pub tree : IsStoppedTree s target nodes
   pub carried : IsCarried s plan
+  pub found : IfSome (plan_in plan) (IsFoundIn s.junction s.lanes nodes)
 
 -- what is answered within a budget of visited nodes, of which this much is left: the first plan's own node is one more,
 -- and a stop comes only where nothing is left

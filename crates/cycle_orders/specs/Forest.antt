@@ -1,13 +1,14 @@
 -- What the trees of a junction's cycles show. A forest has one tree for each cycle, from the least cycle upwards without
 -- gaps.
 use Rattle.std.specs.Prelude.{ℕ, List, [], ◌∷◌, ◌++◌, length, Option, None, Some, ◌≡◌, ◌+◌, ◌<◌, ◌≤◌, ⊤, All}
-use Rattle.std.specs.List.{sum_by}
 use Rattle.sig_base.specs.Ratio.{fraction_of}
 use Rattle.sig_base.specs.declared.ratio.Ratio.{Ratio}
 use Rattle.sig_base.specs.declared.target.Target.{Target}
 use Rattle.sig_base.specs.declared.target.Target.TheVariants.{Reach, Beat}
+pub use Rattle.constraint_cycles.specs.Forest.{visited_in}
 use Rattle.constraint_cycles.specs.Marks.{root_marks}
-use Rattle.constraint_cycles.specs.Tree.{AllNodes, IsSound, IsVisited, IsWholeTree, visited_count}
+use Rattle.constraint_cycles.specs.Tree.{AllNodes, IsSound, IsVisited, IsWholeTree}
+use Rattle.constraint_cycles.specs.Visit.{visits}
 use Rattle.constraint_cycles.specs.declared.mark.Mark.{Mark}
 use Rattle.constraint_cycles.specs.declared.node.Node.{Node}
 use Rattle.constraint_cycles.specs.declared.node.Node.TheVariants.{Split, Closed, Unvisited}
@@ -17,18 +18,14 @@ use Rattle.plan_model.specs.Claims.{IsPlanMultiplier}
 use Rattle.plan_model.specs.Fits.{Fits}
 use Rattle.plan_model.specs.SignalPlan.{PlanView}
 use Rattle.least_greens.specs.ForTarget.{needs_of, target_beside, ClosesCycleFor}
-use Rattle.cycle_orders.specs.Answer.{EndsUnvisited}
+use Rattle.cycle_orders.specs.Answer.{EndsUnvisited, IsFoundIn}
 use Rattle.cycle_orders.specs.Due.{SplitsDue}
-use Rattle.cycle_orders.specs.Lean.{IsLeanFor, IsUnclosed}
+use Rattle.cycle_orders.specs.Lean.{IsLeanFor, IsPassed, IsUnclosed}
 
 -- P holds of each tree beside its cycle, the first tree's being given
 abbrev pub EachTree : (ℕ → List Node → Type 0) → ℕ → List (List Node) → Type 0
 EachTree P cycle [] = ⊤
 EachTree P cycle (nodes ∷ forest) = P cycle nodes × EachTree P (cycle + 1) forest
-
--- the Split and Closed nodes of all trees
-abbrev pub visited_in : List (List Node) → ℕ
-visited_in forest = sum_by visited_count forest
 
 -- the multiple of the trees' targets: the plan's multiplier, or the least where there is no plan
 abbrev pub IsMultipleWith : JunctionView → Ratio → Option PlanView → Ratio → Type 0
@@ -62,6 +59,24 @@ module _ (junction : JunctionView) where
   -- the Closed nodes of the tree close for the target
   abbrev pub IsSoundFor : Target → ℕ → List Node → Type 0
   IsSoundFor target cycle nodes = EachNode (IsSound junction.conflicts (needs_of junction all_lanes target cycle) cycle) nodes
+
+-- P holds of the tree of this cycle
+pub record HoldsOfTree (junction : JunctionView) (cycle : ℕ) (P : List Node → Type 0) (forest : List (List Node)) : Type 0 where
+  pub shorter : List (List Node)
+  pub own : List Node
+  pub longer : List (List Node)
+  pub joined : forest ≡ shorter ++ own ∷ longer
+  pub below : HasTreesBelow junction cycle shorter
+  pub holds : P own
+
+-- the plan was found in the tree of its cycle
+abbrev pub IsFoundAmong : JunctionView → List (List Node) → PlanView → Type 0
+IsFoundAmong junction forest p = HoldsOfTree junction p.cycle (λ nodes. IsFoundIn junction all_lanes nodes p) forest
+
+-- the plan was passed in the tree of its cycle
+abbrev pub IsPassedAmong : JunctionView → List (List Node) → PlanView → Type 0
+IsPassedAmong junction forest p =
+    HoldsOfTree junction p.cycle (λ nodes. IsPassed junction p.cycle p (visits (root_marks junction.conflicts ∷ []) nodes [])) forest
 
 module _ (junction : JunctionView) (least : Ratio) where
   -- lean for reaching the least

@@ -1,6 +1,7 @@
 -- What an answer over all cycles of a junction means.
-use Rattle.std.specs.Prelude.{List, Option, None, Some, ◌≡◌, ⊤}
+use Rattle.std.specs.Prelude.{ℕ, List, Option, None, Some, ◌≡◌, ◌≤◌, ⊤}
 use Rattle.sig_base.specs.declared.ratio.Ratio.{Ratio}
+use Rattle.constraint_cycles.specs.Forest.{visited_in}
 use Rattle.constraint_cycles.specs.declared.node.Node.{Node}
 use Rattle.junction_model.specs.Junction.{JunctionView}
 use Rattle.plan_model.specs.FittedPlan.{junction_of, fitted_plan_of}
@@ -28,6 +29,16 @@ abbrev pub IfStopped : Answer → (Option PlanView → List (List Node) → Type
 IfStopped (Optimal f forest) P = ⊤
 IfStopped (Infeasible forest) P = ⊤
 IfStopped (Stopped plan forest) P = P (plan_in plan) forest
+
+-- the trees of an answer
+abbrev pub forest_of : Answer → List (List Node)
+forest_of (Optimal f forest) = forest
+forest_of (Infeasible forest) = forest
+forest_of (Stopped plan forest) = forest
+
+-- as many nodes as the budget were visited, or fewer
+abbrev pub IsWithinBudget : ℕ → Answer → Type 0
+IsWithinBudget budget answer = visited_in (forest_of answer) ≤ budget
 
 abbrev pub IsNoPlan : Answer → Type 0
 IsNoPlan (Optimal f forest) = ⊥

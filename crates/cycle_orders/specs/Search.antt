@@ -4,7 +4,7 @@ use Rattle.sig_base.specs.Ratio.{fraction_of}
 use Rattle.sig_base.specs.declared.lane_set.LaneSet.{LaneSet}
 use Rattle.sig_base.specs.declared.ratio.Ratio.{Ratio}
 use Rattle.sig_base.specs.declared.target.Target.{Target}
-use Rattle.sig_base.specs.declared.target.Target.TheVariants.{Beat}
+use Rattle.sig_base.specs.declared.target.Target.TheVariants.{Reach, Beat}
 use Rattle.constraint_cycles.specs.Marks.{root_marks, Refines, IsDecided}
 use Rattle.constraint_cycles.specs.declared.mark.Mark.{Mark}
 use Rattle.difference_system.specs.Solution.{AreLeastStarts}
@@ -53,6 +53,12 @@ pub record IsPlanOfOrder (s : SearchView) (target : Target) (marks : List Mark) 
   pub lasts : p.cycle ≡ s.cycle
   pub greens : p.greens ≡ needs_of s.junction s.lanes target s.cycle
   pub starts : AreLeastStarts (λ starts. MeetsByGreens s.junction (record { cycle = p.cycle; starts = starts; greens = p.greens }) marks) p.starts
+
+-- the plan is that of the order for reaching its own multiplier over the lanes
+pub record IsAtOwnRatio (junction : JunctionView) (lanes : LaneSet) (marks : List Mark) (p : PlanView) : Type 0 where
+  pub ratio : Ratio
+  pub own : IsLeastMultiplier junction p lanes (fraction_of ratio)
+  pub plan : IsPlanOfOrder (search_of junction lanes (Reach ratio) p.cycle mode.Best) (Reach ratio) marks p
 
 -- the plan of the order for a target that is at least the asked one: it meets both, and begins with group 0
 pub record IsPlanFor (s : SearchView) (target : Target) (marks : List Mark) (p : PlanView) : Type 0 where

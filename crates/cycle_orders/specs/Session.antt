@@ -1,5 +1,5 @@
 -- What contracts see of a session, and what its calls do.
-use Rattle.std.specs.Prelude.{ℕ, List, [], ◌∷◌, length, Option, None, Some, Result, Ok, Err, ◌≡◌, ◌+◌, ◌<◌, ◌≤◌, ⊤}
+use Rattle.std.specs.Prelude.{ℕ, List, [], ◌∷◌, length, take, Option, None, Some, Result, Ok, Err, ◌≡◌, ◌+◌, ◌<◌, ◌≤◌, ⊤}
 use Rattle.sig_base.specs.declared.no_memory.NoMemory.{NoMemory}
 use Rattle.constraint_cycles.specs.Tree.{visited_count}
 use Rattle.constraint_cycles.specs.declared.node.Node.{Node}
@@ -34,11 +34,16 @@ IsProgress nodes old new (Ok progress.Going) = (new.visited ≡ old.visited + no
 IsProgress nodes old new (Ok progress.Ended) = ¬ HasUnvisited new
 IsProgress nodes old new (Err fault) = HasUnvisited new
 
+-- the visited nodes of the tree before are the first nodes of the tree now, as they were
+abbrev pub KeepsVisited : SessionView → SessionView → Type 0
+KeepsVisited old new = take old.visited new.tree ≡ take old.visited old.tree
+
 -- up to so many nodes were visited
 pub record IsAdvance (nodes : ℕ) (old new : SessionView) (result : Result Progress NoMemory) : Type 0 where
   pub search : new.search ≡ old.search
   pub rises : old.visited ≤ new.visited
   pub most : new.visited ≤ old.visited + nodes
+  pub past : KeepsVisited old new
   pub is_answer : IsProgress nodes old new result
   pub still : new.visited ≡ old.visited → new ≡ old
   pub over : ¬ HasUnvisited old → (new ≡ old) × (result ≡ Ok progress.Ended)

@@ -1,5 +1,5 @@
 -- How a session stands.
-use Rattle.std.specs.Prelude.{ℕ, List, ◌++◌, Option, None, Some, length, take, ◌≡◌, ◌+◌, replicate}
+use Rattle.std.specs.Prelude.{ℕ, List, ◌++◌, Option, None, Some, length, take, ◌≡◌, ◌+◌, IfSome, replicate}
 use Rattle.sig_base.specs.declared.target.Target.{Target}
 use Rattle.constraint_cycles.specs.Marks.{root_marks, Refines, IsDecided}
 use Rattle.constraint_cycles.specs.Starts.{MeetsOrder}
@@ -10,7 +10,7 @@ use Rattle.constraint_cycles.specs.declared.node.Node.TheVariants.{Unvisited}
 use Rattle.difference_system.specs.Solution.{AreLeastStarts, AreStartsWithin}
 use Rattle.least_greens.specs.ForTarget.{needs_of}
 use Rattle.plan_model.specs.declared.fitted_plan.FittedPlan.{FittedPlan}
-use Rattle.cycle_orders.specs.Answer.{IsFirstPlan, IsCarried, plan_in}
+use Rattle.cycle_orders.specs.Answer.{IsFirstPlan, IsFoundIn, IsCarried, plan_in}
 use Rattle.cycle_orders.specs.DueItems.{AreDueItems}
 use Rattle.cycle_orders.specs.Place.{PlaceView}
 use Rattle.cycle_orders.specs.Search.{SearchView, IsRunning}
@@ -49,6 +49,7 @@ module _ (s : SearchView) where
     pub tree_is : IsTreeSoFar target tree count p.coming
     pub running : IsRunning s (plan_in plan) target
     pub carried : IsCarried s plan
+    pub found : IfSome (plan_in plan) (IsFoundIn s.junction s.lanes (take count tree))
 
   -- the node that was visited last gave a plan, and the rest of the tree was dropped
   pub record HasFirstPlan (tree : List Node) (count : ℕ) (f : FittedPlan) : Type 0 where

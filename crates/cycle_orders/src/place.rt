@@ -4,9 +4,8 @@
 //! The order at hand decides the first of the items, as many as the place is deep, and is kept once: to go down a mark is
 //! set, to go back it is unset. A search goes down by the due items; where a tree is read, its Splits name the items.
 //! Behind each mark that is First the order waits that has it Second. The closure stands one level higher until the order
-//! at hand is solved, since other needs may have closed the order above, and then a closure can't be taken further down:
-//! the walk that closes the order above closes all orders below it.
-ghost use Rattle.std.specs.Prelude.{◌≡◌, ◌≢◌, ◌≤◌, ◌<◌, ◌++◌, ◌∷◌, [], length, IfOk, IfSome, IsSome, MatchOption, MatchBool};
+//! at hand is entered, which is done only where starts meet it.
+ghost use Rattle.std.specs.Prelude.{◌≡◌, ◌≢◌, ◌≤◌, ◌<◌, ◌++◌, ◌∷◌, [], length, IfOk, IfSome, IsNone, IsSome, MatchOption, MatchBool};
 ghost use Rattle.sig_base.specs.Times.{IsCycle};
 ghost use Rattle.conflict_matrix.specs.Conflicts.{matrix_of};
 ghost use Rattle.constraint_cycles.specs.Edge.{AreNeeds};
@@ -14,7 +13,7 @@ ghost use Rattle.constraint_cycles.specs.Marks.{IsOrderFor, IsDecided, Refines, 
 ghost use Rattle.constraint_cycles.specs.Order.{order_of, marks_of};
 ghost use Rattle.constraint_cycles.specs.Tree.{orders_below};
 ghost use Rattle.constraint_cycles.specs.declared.node.Node.TheVariants.{Split};
-ghost use Rattle.difference_system.specs.Solution.{AreLeastStarts, AreStartsWithin, IfStarts, IfWalk};
+ghost use Rattle.difference_system.specs.Solution.{IsSolvable, AreLeastStarts, AreStartsWithin, IfStarts, IfWalk};
 ghost use Rattle.cycle_orders.specs.Due.{IsDue, IsOpenItem};
 ghost use Rattle.cycle_orders.specs.DueItems.{AreDueItems};
 ghost use Rattle.cycle_orders.specs.Place.{IsMoved, order_at, coming_later, MeetsHere, ClosesHere, with_needs, with_items};
@@ -23,7 +22,7 @@ ghost use Rattle.cycle_orders.specs.Way.{IsWay, orders_along, orders_above, orde
 
 use crate::items::Items;
 use conflict_matrix::Conflicts;
-use constraint_cycles::{Mark, Order, Walk, growth_law, order_law};
+use constraint_cycles::{Mark, Order, Walk, order_law};
 use difference_system::{Closure, Solved};
 use sig_base::NoMemory;
 use std::alloc::Global;
@@ -161,30 +160,44 @@ impl Place {
         self.standing = Standing::Above;
     }
 
-    /// Takes the closure to the order at hand, or gives a walk that closes the order above, and so this one too.
-    fn enter(&mut self) -> Option<Walk>
+    /// Takes the closure to the order at hand where starts meet it; else gives a walk that closes it.
+    pub fn enter(&mut self) -> Option<Walk>
         requires { 1 ≤ length self.old.coming }
         ensures moved { IsMoved self.old self.new self.old.coming }
         ensures next { self.new.next ≡ self.old.next }
-        ensures closed { MatchOption result (self.new.standing ≡ At) (ClosesHere self.old) }
+        ensures closed { IfSome result (ClosesHere self.old) }
+        ensures entered { IsNone result → self.new.standing ≡ At }
+        ensures solvable { IsNone result → IsSolvable (MeetsHere self.old) }
     {
-        growth_law();
         if matches!(self.standing, Standing::At) {
-            return None;
+            return self.closure.closing();
         }
         if self.depth == 0 {
             self.standing = Standing::At;
-            return None;
-        }
-        if let Solved::Walk(walk) = self.closure.answer() {
-            return Some(walk);
+            return self.closure.closing();
         }
         let Some(item) = self.items.get(self.depth - 1) else {
             unreachable!();
         };
-        self.closure.insert(item, self.order.mark(item));
+        if let Some(walk) = self.closure.decide(item, self.order.mark(item)) {
+            return Some(walk);
+        }
         self.standing = Standing::At;
         None
+    }
+
+    /// The least starts that meet the order at hand.
+    pub fn starts(&self) -> [u32; 16]
+        requires some { 1 ≤ length self.now.coming }
+        requires entered { self.now.standing ≡ At }
+        requires solvable { IsSolvable (MeetsHere self.now) }
+        ensures least { AreLeastStarts (MeetsHere self.now) result }
+        ensures within { AreStartsWithin self.now.conflicts.groups self.now.cycle result }
+    {
+        match self.closure.answer() {
+            Solved::Starts(starts) => starts,
+            Solved::Walk(_) => unreachable!(),
+        }
     }
 
     /// Solves the order at hand.

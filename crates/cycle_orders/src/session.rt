@@ -10,7 +10,7 @@ ghost use Rattle.std.specs.Prelude.{ℕ, ◌≡◌, ◌+◌, ◌-◌, ◌<◌, �
 ghost use Rattle.least_greens.specs.NeedRule.{rule_junction, rule_lanes};
 ghost use Rattle.cycle_orders.specs.Answer.{IsSearchAnswer};
 ghost use Rattle.cycle_orders.specs.Search.{search_of, IsSearchable};
-ghost use Rattle.cycle_orders.specs.Session.{session_begun, HasUnvisited, IsAdvance, IsStoppedAnswer, IsOfSession, IsWithin};
+ghost use Rattle.cycle_orders.specs.Session.{session_begun, HasUnvisited, KeepsVisited, IsAdvance, IsStoppedAnswer, IsOfSession, IsWithin};
 
 use crate::answer::{CycleAnswer, Mode, Progress};
 use crate::place::Place;
@@ -118,6 +118,7 @@ impl<'j, F: Fn(Target, u32, usize) -> u32 + NeedClosure + Drop> Session<'j, F> {
         requires { HasUnvisited self.old }
         ensures search { self.new.search ≡ self.old.search }
         ensures ok { OnOk result (self.new.visited ≡ self.old.visited + 1) }
+        ensures past { OnOk result (KeepsVisited self.old self.new) }
         ensures err { OnErr result (self.new ≡ self.old) }
     {
         rising_law();
@@ -149,7 +150,8 @@ impl<'j, F: Fn(Target, u32, usize) -> u32 + NeedClosure + Drop> Session<'j, F> {
         Ok(())
     }
 
-    /// Visits up to so many nodes. After want of memory it may be called again, and goes on where it stands.
+    /// Visits up to so many nodes; those that were visited before stay as they are. After want of memory it may be called
+    /// again, and goes on where it stands.
     pub fn advance(&mut self, nodes: u64) -> Result<Progress, NoMemory>
         ensures { IsAdvance nodes self.old self.new result }
     {

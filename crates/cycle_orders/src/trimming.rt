@@ -7,7 +7,7 @@
 ghost use Rattle.std.specs.Prelude.{◌≡◌, ◌∷◌, [], ◌<◌, ◌≤◌, length, drop, IfOk};
 ghost use Rattle.sig_base.specs.Times.{IsCycle};
 ghost use Rattle.constraint_cycles.specs.Marks.{root_marks};
-ghost use Rattle.constraint_cycles.specs.Tree.{AllNodes};
+ghost use Rattle.constraint_cycles.specs.Tree.{AllNodes, visited_count};
 ghost use Rattle.least_greens.specs.ForTarget.{ClosesCycleFor};
 ghost use Rattle.least_greens.specs.NeedRule.{rule_junction, rule_lanes};
 ghost use Rattle.cycle_orders.specs.Lean.{IsLeanFor};
@@ -75,8 +75,9 @@ fn trim_node(
 }
 
 /// The tree that is left of one which closes the cycle, in seconds, for the target over the rule's lanes: a Split whose own
-/// order is closed for the target goes, with all nodes below it, and no other does; a walk that stood stays. Any tree is
-/// taken that closes the cycle, whatever items its Splits decide, and so is a cycle outside the junction's limits.
+/// order is closed for the target goes, with all nodes below it, and no other does; a walk that stood stays. So it
+/// has no more nodes. Any tree is taken that closes the cycle, whatever items its Splits decide, and so is a cycle outside
+/// the junction's limits.
 pub fn trim<'j, F: Fn(Target, u32, usize) -> u32 + NeedClosure>(
     alloc: Global,
     rule: &NeedRule<'j, F>,
@@ -94,6 +95,7 @@ pub fn trim<'j, F: Fn(Target, u32, usize) -> u32 + NeedClosure>(
     ensures still_lean { IfOk result (λ trimmed. (other : Target) →
         IsLeanFor (rule_junction rule.now) (rule_lanes rule.now) other cycle tree.now →
         IsLeanFor (rule_junction rule.now) (rule_lanes rule.now) other cycle trimmed) }
+    ensures no_more { IfOk result (λ trimmed. visited_count trimmed ≤ visited_count tree.now) }
     ensures splits { IfOk result (AllNodes (IsSplitOf (rule_junction rule.now).conflicts tree.now)
         (root_marks (rule_junction rule.now).conflicts ∷ [])) }
     ensures trimmed { IfOk result

@@ -6,7 +6,6 @@ ghost use Rattle.cycle_orders.specs.Visited.{IsClosing, IsVisit};
 
 use crate::place::Place;
 use constraint_cycles::{Node, Tree, Walk};
-use difference_system::Solved;
 use sig_base::NoMemory;
 
 /// What a visit made of the order at hand.
@@ -55,15 +54,12 @@ pub fn visit(place: &mut Place, tree: &mut Tree, count: usize) -> Result<Visited
     ensures stays { OnErr result (IsMoved place.old place.new place.old.coming) }
     ensures tree { OnErr result (tree.new ≡ tree.old) }
 {
-    let starts = match place.solve() {
-        Solved::Walk(walk) => {
-            close(place, tree, count, walk);
-            return Ok(Visited::Closed);
-        }
-        Solved::Starts(starts) => starts,
-    };
+    if let Some(walk) = place.enter() {
+        close(place, tree, count, walk);
+        return Ok(Visited::Closed);
+    }
     let Some(item) = place.due() else {
-        return Ok(Visited::Full(starts));
+        return Ok(Visited::Full(place.starts()));
     };
     push_two(tree)?;
     tree.set(count, Node::Split(item as u8));

@@ -5,7 +5,7 @@ use Rattle.cycle_orders.specs.Search.{search_of}
 use Rattle.cycle_orders.specs.Standing.{HasNeedsOf}
 use Rattle.cycle_orders.specs.declared.answer.Mode.TheVariants.{First}
 use Rattle.cycle_orders.proofs.TrimSteps.{trimming_begun, trimming_step, trimming_stands, trimming_whole}
-use Rattle.cycle_orders.proofs.Trimmed.{trimmed_closes, trimmed_splits, trimmed_lean, trimmed_still_lean}
+use Rattle.cycle_orders.proofs.Trimmed.{trimmed_closes, trimmed_no_more, trimmed_splits, trimmed_lean, trimmed_still_lean}
 use Rattle.cycle_orders.proofs.trimming.trim.Goals as goal
 
 pub loop-next-init : goal.loop-next-init
@@ -52,6 +52,14 @@ returns-clause-still_lean g c = λ other lean.
     trimmed_still_lean s nodes c.loop-next.trimmed (rw c.items-nodes.ensures c.requires.closes) (trimming_stands s nodes c.loop-next.trimmed c.loop-next.place c.loop-next.next over c.loop-next.invariant)
     (trimming_whole s nodes c.loop-next.trimmed c.loop-next.place c.loop-next.next over c.loop-next.invariant)
     c.rising_law.ensures.walk c.passed_plan_law.ensures c.target_law.ensures.total c.requires.cycle.shortest other (rw c.items-nodes.ensures lean)
+
+pub returns-clause-no_more : goal.returns-clause-no_more
+returns-clause-no_more g c =
+    let s = search_of (rule_junction c.args.rule.now) (rule_lanes c.args.rule.now) c.args.target c.args.cycle First in
+    let nodes = c.items-nodes.result.now in
+    let over : length nodes ≤ c.loop-next.next = omega (arith, c.loop-next-test.false) in
+    rw (← c.items-nodes.ensures) (trimmed_no_more s.junction s.lanes s.target s.cycle c.loop-next.trimmed (root_marks s.junction.conflicts ∷ []) nodes
+    (trimming_stands s nodes c.loop-next.trimmed c.loop-next.place c.loop-next.next over c.loop-next.invariant))
 
 pub returns-clause-splits : goal.returns-clause-splits
 returns-clause-splits g c =
