@@ -1,15 +1,18 @@
 -- The trees of all cycles, trimmed.
-use Rattle.std.proofs.Common.{ℕ, List, [], ◌∷◌, ◌++◌, ◌≡◌, ◌+◌, Some, length, slice_get, arith}
+use Rattle.std.proofs.Common.{ℕ, List, [], ◌∷◌, ◌++◌, ◌≡◌, ◌+◌, ◌≤◌, Some, length, slice_get, take, arith}
+use Rattle.std.proofs.lemmas.List.Sums.{sum_by_push, sum_by_more}
+use Rattle.std.proofs.lemmas.Option.{slice_get_within, get_or_from_slice_get}
 use Rattle.sig_base.specs.declared.lane_set.LaneSet.{LaneSet}
 use Rattle.sig_base.specs.declared.ratio.Ratio.{Ratio}
 use Rattle.sig_base.specs.declared.target.Target.{Target}
 use Rattle.sig_base.specs.declared.target.Target.TheVariants.{Reach}
+use Rattle.constraint_cycles.specs.Tree.{visited_count}
 use Rattle.constraint_cycles.specs.declared.node.Node.{Node}
 use Rattle.junction_model.specs.Junction.{JunctionView}
 use Rattle.least_greens.specs.ForTarget.{target_beside, ClosesCycleFor}
 use Rattle.plan_model.specs.AllLanes.{all_lanes}
 use Rattle.plan_model.specs.SignalPlan.{PlanView}
-use Rattle.cycle_orders.specs.Forest.{EachTree, IsClosedBeside, IsGreatest, IsLeanForLeast}
+use Rattle.cycle_orders.specs.Forest.{EachTree, IsClosedBeside, IsGreatest, IsLeanForLeast, visited_in}
 use Rattle.cycle_orders.specs.Lean.{IsLeanFor}
 use Rattle.cycle_orders.proofs.EachTree.{push_tree, tree_at, map_trees}
 
@@ -48,3 +51,10 @@ module _ (junction : JunctionView) (least : Ratio) (p : PlanView) (multiplier : 
       lean = rw every at (still (Reach least) older_lean);
       own_lean = rw (every, own_target) at lean;
     }))
+
+-- one more tree that has no more visited nodes than the older one
+pub counted_next : (forest trimmed grown : List (List Node)) (number : ℕ) (older nodes : List Node) → slice_get forest number ≡ Some older → visited_in trimmed ≤ visited_in (take number forest) →
+    grown ≡ trimmed ++ nodes ∷ [] → visited_count nodes ≤ visited_count older → visited_in grown ≤ visited_in (take (number + 1) forest)
+counted_next forest trimmed grown number older nodes at no_more pushed fewer =
+    rw (pushed, sum_by_push visited_count trimmed nodes, sum_by_more visited_count forest number older (slice_get_within forest number older at), get_or_from_slice_get forest number older older at)
+    (omega (arith, no_more, fewer))

@@ -11,9 +11,9 @@ ghost use Rattle.least_greens.specs.NeedOf.{need_of};
 ghost use Rattle.plan_model.specs.AllLanes.{all_lanes};
 ghost use Rattle.plan_model.specs.Claims.{IsCapacityOptimal, IsInfeasible};
 ghost use Rattle.cycle_orders.specs.Answer.{plan_in};
-ghost use Rattle.cycle_orders.specs.Forest.{IsGreatest, IsExhausted, IsStoppedAt};
+ghost use Rattle.cycle_orders.specs.Forest.{IsGreatest, IsExhausted, IsFoundAmong, IsStoppedAt};
 ghost use Rattle.cycle_orders.specs.Joined.{next_target};
-ghost use Rattle.cycle_orders.specs.JunctionAnswer.{IfOptimal, IfInfeasible, IfStopped, IsNoPlan, IsStop, IsPlanOf, carried_by};
+ghost use Rattle.cycle_orders.specs.JunctionAnswer.{IfOptimal, IfInfeasible, IfStopped, IsNoPlan, IsStop, IsPlanOf, IsWithinBudget, carried_by};
 
 use crate::trimming::trim_beside;
 use constraint_cycles::Forest;
@@ -53,6 +53,9 @@ fn greatest<'j, F: Fn(Target, u32, usize) -> u32 + NeedClosure + Drop>(
     ensures stopped { IfOk result (λ answer. IfStopped answer
         (IsStoppedAt junction.now least budget)) }
     ensures covered { IfOk result (λ answer. IsStop answer → budget < cover_of junction.now) }
+    ensures found { IfOk result (λ answer. IfStopped answer
+        (λ p forest. IfSome p (IsFoundAmong junction.now forest))) }
+    ensures within { IfOk result (IsWithinBudget budget) }
     ensures plan { IfOk result (λ answer. IfSome (carried_by answer)
         (IsPlanOf junction.now least)) }
 {
@@ -93,7 +96,8 @@ fn greatest<'j, F: Fn(Target, u32, usize) -> u32 + NeedClosure + Drop>(
 
 /// A plan of the greatest multiplier among all plans that fit, of any cycle, and of these one of the shortest cycle;
 /// `Infeasible` where none meets the least multiple, `Stopped` where as many nodes as the budget were visited and one is
-/// left. The plan has group 0 at second 0. The trees of the best plan are trimmed, those of the other answers aren't.
+/// left; its plan was found in the tree of its cycle. The plan has group 0 at second 0. The trees of the best plan are
+/// trimmed, those of the other answers aren't.
 pub fn capacity<'j>(
     alloc: Global,
     junction: &'j Junction,
@@ -110,6 +114,9 @@ pub fn capacity<'j>(
     ensures stopped { IfOk result (λ answer. IfStopped answer
         (IsStoppedAt junction.now least budget)) }
     ensures covered { IfOk result (λ answer. IsStop answer → budget < cover_of junction.now) }
+    ensures found { IfOk result (λ answer. IfStopped answer
+        (λ p forest. IfSome p (IsFoundAmong junction.now forest))) }
+    ensures within { IfOk result (IsWithinBudget budget) }
     ensures plan { IfOk result (λ answer. IfSome (carried_by answer)
         (IsPlanOf junction.now least)) }
 {

@@ -1,10 +1,10 @@
-ghost use Rattle.std.specs.Prelude.{◌≡◌, IfOk};
+ghost use Rattle.std.specs.Prelude.{◌≡◌, ◌≤◌, IfOk};
 ghost use Rattle.sig_base.specs.declared.ratio.Ratio.{Ratio};
 ghost use Rattle.least_greens.specs.ForTarget.{target_beside};
 ghost use Rattle.least_greens.specs.NeedRule.{rule_junction, rule_lanes};
 ghost use Rattle.plan_model.specs.AllLanes.{all_lanes};
 ghost use Rattle.plan_model.specs.FittedPlan.{fitted_plan_of};
-ghost use Rattle.cycle_orders.specs.Forest.{IsClosedBeside, IsGreatest};
+ghost use Rattle.cycle_orders.specs.Forest.{IsClosedBeside, IsGreatest, visited_in};
 
 use constraint_cycles::Forest;
 use cycle_orders::trim;
@@ -35,7 +35,8 @@ pub fn trim_beside<'j, F: Fn(Target, u32, usize) -> u32 + NeedClosure>(
     requires lanes { rule_lanes rule.now ≡ all_lanes }
     requires closed { (least : Ratio) × IsClosedBeside (rule_junction rule.now) least
         (fitted_plan_of plan.now) multiplier forest.now }
-    ensures { IfOk result (λ trimmed. (least : Ratio) →
+    ensures no_more { IfOk result (λ trimmed. visited_in trimmed ≤ visited_in forest.now) }
+    ensures greatest { IfOk result (λ trimmed. (least : Ratio) →
         IsClosedBeside (rule_junction rule.now) least
         (fitted_plan_of plan.now) multiplier forest.now →
         IsGreatest (rule_junction rule.now) least (fitted_plan_of plan.now) trimmed) }

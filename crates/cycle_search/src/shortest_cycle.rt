@@ -9,8 +9,8 @@ ghost use Rattle.least_greens.specs.NeedClosure.{IsQuestion, Answers};
 ghost use Rattle.least_greens.specs.NeedOf.{need_of};
 ghost use Rattle.plan_model.specs.AllLanes.{all_lanes};
 ghost use Rattle.plan_model.specs.Claims.{IsCycleOptimal, IsInfeasible};
-ghost use Rattle.cycle_orders.specs.Forest.{IsShortest, IsExhausted, IsStoppedAt};
-ghost use Rattle.cycle_orders.specs.JunctionAnswer.{IfOptimal, IfInfeasible, IfStopped, IsNoPlan, IsStop, IsPlanOf, CarriesNoPlan, carried_by};
+ghost use Rattle.cycle_orders.specs.Forest.{IsShortest, IsExhausted, IsStoppedAt, visited_in};
+ghost use Rattle.cycle_orders.specs.JunctionAnswer.{IfOptimal, IfInfeasible, IfStopped, IsNoPlan, IsStop, IsPlanOf, IsWithinBudget, CarriesNoPlan, carried_by};
 
 use constraint_cycles::Forest;
 use cycle_orders::{Answer, CycleAnswer, Mode, joined_law, search};
@@ -40,6 +40,9 @@ fn first<'j, F: Fn(Target, u32, usize) -> u32 + NeedClosure + Drop>(
         (IsStoppedAt junction.now least budget)) }
     ensures without { IfOk result CarriesNoPlan }
     ensures covered { IfOk result (λ answer. IsStop answer → budget < cover_of junction.now) }
+    ensures within { IfOk result (IsWithinBudget budget) }
+    ensures found_within { IfOk result (λ answer. IfOptimal answer
+        (λ p forest. visited_in forest < budget)) }
     ensures plan { IfOk result (λ answer. IfSome (carried_by answer)
         (IsPlanOf junction.now least)) }
 {
@@ -88,6 +91,9 @@ pub fn shortest<'j>(
         (IsStoppedAt junction.now least budget)) }
     ensures without { IfOk result CarriesNoPlan }
     ensures covered { IfOk result (λ answer. IsStop answer → budget < cover_of junction.now) }
+    ensures within { IfOk result (IsWithinBudget budget) }
+    ensures found_within { IfOk result (λ answer. IfOptimal answer
+        (λ p forest. visited_in forest < budget)) }
     ensures plan { IfOk result (λ answer. IfSome (carried_by answer)
         (IsPlanOf junction.now least)) }
 {
