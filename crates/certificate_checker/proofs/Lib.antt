@@ -6,3 +6,4 @@ pub mod Closing
 pub mod PlanRules
 pub mod CertificateRules
 pub mod Proves
+pub mod OneRule

@@ -9,3 +9,5 @@ pub mod NoFloat
 pub mod CertificateData
 pub mod ReadableText
 pub mod TextLaws
+pub mod Totality
+pub mod PlainText

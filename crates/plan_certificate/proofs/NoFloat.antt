@@ -1,4 +1,4 @@
--- The data of a certificate has no float, and nests four deep.
+-- The data of a certificate has no float, nor has that of its numbers, trees and plan; it nests four deep.
 use Rattle.std.proofs.Common.{◌≡◌, ◌≤◌, false, List, ℕ, [], ◌∷◌, map, Option, Some, None, refl, arith}
 use Rattle.serde_json.specs.Data.{items_depth, depth}
 use Rattle.serde_json.specs.Read.{max_depth}
@@ -11,7 +11,7 @@ use Rattle.plan_certificate.specs.Certificate.{CertificateView}
 use Rattle.plan_certificate.specs.Contents.{whole, node_data, tree_data}
 use Rattle.plan_certificate.specs.Text.{plan_or_null, certificate_data}
 
-wholes_exact : (ns : List ℕ) → items_have_float (items_of (map whole ns)) ≡ false
+pub wholes_exact : (ns : List ℕ) → items_have_float (items_of (map whole ns)) ≡ false
 wholes_exact [] = refl
 wholes_exact (n ∷ ns) = wholes_exact ns
 
@@ -24,11 +24,11 @@ nodes_exact : (nodes : List Node) → items_have_float (items_of (map node_data 
 nodes_exact [] = refl
 nodes_exact (node ∷ nodes) = rw (node_exact node) (nodes_exact nodes)
 
-trees_exact : (trees : List (List Node)) → items_have_float (items_of (map tree_data trees)) ≡ false
+pub trees_exact : (trees : List (List Node)) → items_have_float (items_of (map tree_data trees)) ≡ false
 trees_exact [] = refl
 trees_exact (nodes ∷ trees) = rw (nodes_exact nodes) (trees_exact trees)
 
-plan_exact : (plan : Option PlanView) → has_float (plan_or_null plan) ≡ false
+pub plan_exact : (plan : Option PlanView) → has_float (plan_or_null plan) ≡ false
 plan_exact None = refl
 plan_exact (Some p) = rw (wholes_exact p.greens, wholes_exact p.starts) refl
 

@@ -1,10 +1,10 @@
 -- What contracts see of a certificate.
-use Rattle.std.specs.Prelude.{ℕ, List, Option, option_map, sum_by}
+use Rattle.std.specs.Prelude.{ℕ, List, Option, option_map}
 use Rattle.sig_base.specs.Fraction.{Fraction}
 use Rattle.sig_base.specs.Ratio.{fraction_of}
 use Rattle.plan_model.specs.SignalPlan.{PlanView}
 use Rattle.plan_model.specs.Plan.{plan_of}
-use Rattle.constraint_cycles.specs.Tree.{visited_count}
+use Rattle.constraint_cycles.specs.Forest.{visited_in}
 use Rattle.constraint_cycles.specs.declared.node.Node.{Node}
 use Rattle.plan_certificate.specs.declared.claim.Claim.{Claim}
 use Rattle.plan_certificate.specs.declared.certificate.Certificate.{Certificate}
@@ -27,4 +27,4 @@ certificate_of c = record {
 
 -- the number of Split and Closed nodes in all trees
 abbrev pub node_count : CertificateView → ℕ
-node_count c = sum_by visited_count c.branches
+node_count c = visited_in c.branches

@@ -1,5 +1,5 @@
 -- What is true of all texts of certificates.
-use Rattle.std.specs.Prelude.{ℕ, List, ◌≡◌, ◌≢◌, ◌≤◌, ◌<◌, ◌^◌}
+use Rattle.std.specs.Prelude.{ℕ, List, ◌≡◌, ◌≢◌, ◌≤◌, ◌<◌, ◌^◌, ◌⊎◌}
 use Rattle.plan_certificate.specs.Certificate.{CertificateView}
 use Rattle.plan_certificate.specs.Ranges.{IsInRange}
 use Rattle.plan_certificate.specs.Reads.{Spells, IsRefusal}
@@ -25,3 +25,14 @@ RefusalLaw = (groups : ℕ) (bytes : List ℕ) (c : CertificateView) (refused : 
 abbrev pub OneFaultLaw : Type 0
 OneFaultLaw = (groups : ℕ) (bytes : List ℕ) (one other : CertificateFault) → one ≢ Memory → other ≢ Memory →
     IsRefusal groups bytes one → IsRefusal groups bytes other → one ≡ other
+
+-- the bytes are refused for this fault, which isn't want of memory, and for no other
+pub record IsOnlyRefusal (groups : ℕ) (bytes : List ℕ) (fault : CertificateFault) : Type 0 where
+  pub own : fault ≢ Memory
+  pub refused : IsRefusal groups bytes fault
+  pub only : (other : CertificateFault) → other ≢ Memory → IsRefusal groups bytes other → other ≡ fault
+
+-- for 2 to 16 groups every list of bytes spells a certificate, or is refused for one fault
+abbrev pub TotalityLaw : Type 0
+TotalityLaw = (groups : ℕ) (bytes : List ℕ) → 2 ≤ groups → groups ≤ 16 →
+    ((c : CertificateView) × Spells groups bytes c) ⊎ ((fault : CertificateFault) × IsOnlyRefusal groups bytes fault)
