@@ -11,7 +11,7 @@ use Rattle.plan_model.specs.FittedPlan.{junction_of, fitted_plan_of}
 use Rattle.plan_model.specs.SignalPlan.{PlanView}
 use Rattle.plan_model.specs.declared.fitted_plan.FittedPlan.{FittedPlan}
 use Rattle.cycle_orders.specs.Answer.{plan_in}
-use Rattle.cycle_orders.specs.Forest.{IsExhausted, IsStoppedAt}
+use Rattle.cycle_orders.specs.Forest.{IsExhausted, IsPassedAmong, IsStoppedAt, visited_in}
 use Rattle.cycle_orders.specs.JunctionAnswer.{IsPlanOf}
 use Rattle.plan_certificate.specs.Ranges.{IsLeast}
 use Rattle.plan_certificate.specs.declared.claim.Claim.{Claim}
@@ -39,15 +39,17 @@ module _ (junction : JunctionView) (rules : IsJunction junction) (least : Ratio)
   designed_any (Some p) (Some q) any = designed_plan p q any
 
   shown_design : ShownRangeLaw → (objective : Objective) (own : Claim) (plan : Option PlanView) (forest : List (List Node)) → own ≢ claim.Stopped → IsClaimFor objective own →
-      IfSome plan (IsDesignedPlan junction) → IsShown junction least (certified least budget own plan forest) → IsDesign junction objective least budget (certified least budget own plan forest)
-  shown_design ranges objective own plan forest going claimed designed shown = record {
+      visited_in forest ≤ budget → IfSome plan (IsDesignedPlan junction) → IsShown junction least (certified least budget own plan forest) → IsDesign junction objective least budget (certified least budget own plan forest)
+  shown_design ranges objective own plan forest going claimed within designed shown = record {
     least_is = refl;
     budget_is = refl;
+    within = within;
     range = ranges junction (certified least budget own plan forest) rules in_range some shown.proves;
     plan = designed;
     claimed = claimed;
     shown = λ other. shown;
     stopped = λ stop. absurd (going stop);
+    passed = λ stop. absurd (going stop);
     uncovered = λ stop. absurd (going stop);
     planless = λ cycle stop. absurd (going stop);
   }
@@ -58,30 +60,32 @@ module _ (junction : JunctionView) (rules : IsJunction junction) (least : Ratio)
   best_shown greatest shortest Cycle p q forest stretch best = shortest junction least budget p q forest rules stretch best
 
   pub best_design : GreatestShownLaw → ShortestShownLaw → ShownRangeLaw → (own : Objective) (f g : FittedPlan) (forest : List (List Node)) → IsPlanOf junction least f →
-      IsStretchTo junction (fitted_plan_of f) (fitted_plan_of g) → IsBest own junction least (fitted_plan_of f) forest →
+      IsStretchTo junction (fitted_plan_of f) (fitted_plan_of g) → IsBest own junction least (fitted_plan_of f) forest → visited_in forest ≤ budget →
       IsDesign junction own least budget (certified least budget (claim_of own) (Some (fitted_plan_of g)) forest)
-  best_design greatest shortest ranges own f g forest asked stretch best =
+  best_design greatest shortest ranges own f g forest asked stretch best within =
       let both : IsStretchOfAsked junction least (fitted_plan_of f) (fitted_plan_of g) = record { asked = asked.asked; stretch = stretch } in
-      shown_design ranges own (claim_of own) (Some (fitted_plan_of g)) forest (not_stopped own) (inl refl) (designed_plan (fitted_plan_of f) (fitted_plan_of g) both)
+      shown_design ranges own (claim_of own) (Some (fitted_plan_of g)) forest (not_stopped own) (inl refl) within (designed_plan (fitted_plan_of f) (fitted_plan_of g) both)
       (best_shown greatest shortest own (fitted_plan_of f) (fitted_plan_of g) forest both best)
 
-  pub infeasible_design : ExhaustedShownLaw → ShownRangeLaw → (own : Objective) (forest : List (List Node)) → IsExhausted junction least forest →
+  pub infeasible_design : ExhaustedShownLaw → ShownRangeLaw → (own : Objective) (forest : List (List Node)) → IsExhausted junction least forest → visited_in forest ≤ budget →
       IsDesign junction own least budget (certified least budget claim.Infeasible None forest)
-  infeasible_design law ranges own forest exhausted =
-      shown_design ranges own claim.Infeasible None forest (λ e. cc) (inr (inl refl)) tt (law junction least budget forest rules exhausted)
+  infeasible_design law ranges own forest exhausted within =
+      shown_design ranges own claim.Infeasible None forest (λ e. cc) (inr (inl refl)) within tt (law junction least budget forest rules exhausted)
 
   pub stopped_design : StoppedShownLaw → StoppedRangeLaw → (own : Objective) (plan stretched : Option PlanView) (forest : List (List Node)) →
-      IsStretchOfAny junction least plan stretched → IsStoppedAt junction least budget plan forest → budget < cover_of junction → (own ≡ Cycle → stretched ≡ None) →
+      IsStretchOfAny junction least plan stretched → IsStoppedAt junction least budget plan forest → visited_in forest ≤ budget → IfSome stretched (IsPassedAmong junction forest) → budget < cover_of junction → (own ≡ Cycle → stretched ≡ None) →
       IsDesign junction own least budget (certified least budget claim.Stopped stretched forest)
-  stopped_design law ranges own plan stretched forest any stopped uncovered without =
+  stopped_design law ranges own plan stretched forest any stopped within passed uncovered without =
       let stop = law junction least budget plan stretched forest rules any stopped in record {
         least_is = refl;
         budget_is = refl;
+        within = within;
         range = ranges junction least budget (certified least budget claim.Stopped stretched forest) rules in_range some stop;
         plan = designed_any plan stretched any;
         claimed = inr (inr refl);
         shown = λ going. absurd (going refl);
         stopped = λ e. stop;
+        passed = λ e. passed;
         uncovered = λ e. uncovered;
         planless = λ cycle e. without cycle;
       }

@@ -4,4 +4,5 @@ mod StoppedTrees
 mod OwnLean
 mod IsShown
 mod Ranges
+mod PassedPlans
 mod IsDesign

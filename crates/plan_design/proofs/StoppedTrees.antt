@@ -26,6 +26,7 @@ use Rattle.plan_certificate.specs.declared.claim.Claim.TheVariants as claim
 use Rattle.certificate_checker.specs.Basis.{BasisView, basis_for}
 use Rattle.certificate_checker.specs.CertificateRules.{LacksItsPlan, BreaksNoRule}
 use Rattle.certificate_checker.specs.ClaimTrees.{cycle_of_tree, IsMultipleFor, target_for}
+use Rattle.certificate_checker.specs.Laws.{PartLaw}
 use Rattle.certificate_checker.specs.Proves.{ProvesPart}
 use Rattle.certificate_checker.specs.TreeRules.{BreaksAt, NoneBreaks}
 use Rattle.certificate_checker.specs.declared.rule.Rule.TheVariants as rule
@@ -136,8 +137,8 @@ module _ (junction : JunctionView) (rules : IsJunction junction) (least : Ratio)
     closed = λ k nodes at visited. let tree = tree_for k nodes at in record { whole = tree.whole; visited = visited; sound = tree.sound };
   }
 
-  pub true_stop : FaultLaw → IsTrueStop junction least budget Own
-  true_stop law = record { claim = refl; rules = none_broken law; part = part; search = stop }
+  pub true_stop : FaultLaw → PartLaw → IsTrueStop junction least budget Own
+  true_stop law part_law = record { claim = refl; rules = none_broken law; part = part; holds = part_law junction Own rules part; search = stop }
 
 -- a stopped search stays one beside the stretched plan
 module _ (rising : RisingWalkLaw) (junction : JunctionView) (rules : IsJunction junction) (least : Ratio) (budget : ℕ) (forest : List (List Node)) where
@@ -172,6 +173,6 @@ module _ (rising : RisingWalkLaw) (junction : JunctionView) (rules : IsJunction 
             (λ cycle nodes from below tree. risen_tree p q any.stretch stop.multiple own.0 stop.is own.1 cycle nodes (omega (arith, rules.cycles.some, from)) tree) stop.trees;
       }
 
-pub stopped_shown_law : RisingWalkLaw → FaultLaw → StoppedShownLaw
-stopped_shown_law rising law junction least budget plan stretched forest rules any stop =
-    true_stop junction rules least budget stretched forest (stays rising junction rules least budget forest plan stretched any stop) (meets_any junction least plan stretched any) law
+pub stopped_shown_law : RisingWalkLaw → FaultLaw → PartLaw → StoppedShownLaw
+stopped_shown_law rising law part_law junction least budget plan stretched forest rules any stop =
+    true_stop junction rules least budget stretched forest (stays rising junction rules least budget forest plan stretched any stop) (meets_any junction least plan stretched any) law part_law

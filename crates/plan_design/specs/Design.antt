@@ -1,5 +1,5 @@
 -- What a design is: a certificate whose plan is as good as its starts allow, and what it shows of all plans.
-use Rattle.std.specs.Prelude.{ℕ, Option, None, ◌≡◌, ◌≢◌, ◌<◌, ◌⊎◌, IfSome, option_map}
+use Rattle.std.specs.Prelude.{ℕ, Option, None, ◌≡◌, ◌≢◌, ◌<◌, ◌≤◌, ◌⊎◌, IfSome, option_map}
 use Rattle.sig_base.specs.Ratio.{fraction_of}
 use Rattle.sig_base.specs.declared.ratio.Ratio.{Ratio}
 use Rattle.junction_model.specs.Covers.{cover_of}
@@ -9,16 +9,16 @@ use Rattle.plan_model.specs.FittedPlan.{junction_of, fitted_plan_of}
 use Rattle.plan_model.specs.Fits.{group_count}
 use Rattle.plan_model.specs.SignalPlan.{PlanView, start_of}
 use Rattle.plan_model.specs.declared.fitted_plan.FittedPlan.{FittedPlan}
-use Rattle.cycle_orders.specs.Forest.{EachTreeOf, IsLeanForLeast, IsStoppedAt}
+use Rattle.cycle_orders.specs.Forest.{EachTreeOf, IsLeanForLeast, IsPassedAmong, IsStoppedAt}
 use Rattle.cycle_orders.specs.Lean.{IsLeanFor}
 use Rattle.plan_stretch.specs.Stretch.{IsStretched}
-use Rattle.plan_certificate.specs.Certificate.{CertificateView}
+use Rattle.plan_certificate.specs.Certificate.{CertificateView, node_count}
 use Rattle.plan_certificate.specs.Ranges.{IsInRange}
 use Rattle.plan_certificate.specs.declared.claim.Claim.{Claim}
 use Rattle.plan_certificate.specs.declared.claim.Claim.TheVariants as claim
 use Rattle.certificate_checker.specs.CertificateRules.{BreaksNoRule}
 use Rattle.certificate_checker.specs.ClaimTrees.{IsMultipleOf, target_of}
-use Rattle.certificate_checker.specs.Proves.{ProvesClaim, IsTrueClaim, ProvesPart}
+use Rattle.certificate_checker.specs.Proves.{ProvesClaim, IsTrueClaim, ProvesPart, IsTruePart}
 use Rattle.plan_design.specs.declared.objective.Objective.{Objective}
 use Rattle.plan_design.specs.declared.objective.Objective.TheVariants.{Capacity, Cycle}
 
@@ -45,23 +45,27 @@ pub record IsShown (junction : JunctionView) (least : Ratio) (c : CertificateVie
   pub own_lean : (multiple : Ratio) → IsMultipleOf junction c multiple →
       EachTreeOf junction (λ cycle. IsLeanFor junction all_lanes (target_of c multiple cycle) cycle) c.branches
 
--- a search that was stopped with its budget: no rule of certificates is broken, and no order was split without need
+-- a search that was stopped with its budget: no rule of certificates is broken, what the trees prove is true of all plans,
+-- and no order was split without need
 pub record IsTrueStop (junction : JunctionView) (least : Ratio) (budget : ℕ) (c : CertificateView) : Type 0 where
   pub claim : c.claim ≡ claim.Stopped
   pub rules : BreaksNoRule junction c
   pub part : ProvesPart junction c
+  pub holds : IsTruePart junction c
   pub search : IsStoppedAt junction least budget c.plan c.branches
 
--- a certificate of the asked least and the given budget, of the claim that is looked for, of none or of a stopped
--- search: it shows its claim, or how the search was stopped
+-- a certificate of the asked least and the given budget, with no more visited nodes than that, of the claim that is looked
+-- for, of none or of a stopped search: it shows its claim, or how the search was stopped, whose plan was passed in the tree of its cycle
 pub record IsDesign (junction : JunctionView) (objective : Objective) (least : Ratio) (budget : ℕ) (c : CertificateView) : Type 0 where
   pub least_is : c.least ≡ fraction_of least
   pub budget_is : c.budget ≡ budget
+  pub within : node_count c ≤ c.budget
   pub range : IsInRange (group_count junction) c
   pub plan : IfSome c.plan (IsDesignedPlan junction)
   pub claimed : IsClaimFor objective c.claim
   pub shown : c.claim ≢ claim.Stopped → IsShown junction least c
   pub stopped : c.claim ≡ claim.Stopped → IsTrueStop junction least budget c
+  pub passed : c.claim ≡ claim.Stopped → IfSome c.plan (IsPassedAmong junction c.branches)
   pub uncovered : c.claim ≡ claim.Stopped → budget < cover_of junction
   pub planless : objective ≡ Cycle → c.claim ≡ claim.Stopped → c.plan ≡ None
 

@@ -1,6 +1,6 @@
 -- What the forests of searches show as certificates, with their plans stretched: the plan's multiplier doesn't fall, so
 -- the targets beside it don't, and what closes for a target closes for every greater one.
-use Rattle.std.specs.Prelude.{ℕ, List, Option, None, Some, ◌≡◌, ◌≤◌, ⊤}
+use Rattle.std.specs.Prelude.{ℕ, List, Option, None, Some, ◌≡◌, ◌≤◌, ⊤, IfSome}
 use Rattle.sig_base.specs.Ratio.{fraction_of}
 use Rattle.sig_base.specs.declared.ratio.Ratio.{Ratio}
 use Rattle.constraint_cycles.specs.declared.node.Node.{Node}
@@ -10,7 +10,7 @@ use Rattle.plan_model.specs.FittedPlan.{junction_of, fitted_plan_of}
 use Rattle.plan_model.specs.Fits.{group_count}
 use Rattle.plan_model.specs.SignalPlan.{PlanView}
 use Rattle.plan_model.specs.declared.fitted_plan.FittedPlan.{FittedPlan}
-use Rattle.cycle_orders.specs.Forest.{IsGreatest, IsShortest, IsExhausted, IsStoppedAt}
+use Rattle.cycle_orders.specs.Forest.{IsGreatest, IsShortest, IsExhausted, IsStoppedAt, IsFoundAmong, IsPassedAmong}
 use Rattle.cycle_orders.specs.Joined.{IsAsked}
 use Rattle.plan_stretch.specs.Stretch.{IsStretchOf, IsStretched}
 use Rattle.plan_stretch.specs.StretchLaw.{IsNoWorse}
@@ -72,11 +72,16 @@ abbrev pub ExhaustedShownLaw : Type 0
 ExhaustedShownLaw = (junction : JunctionView) (least : Ratio) (budget : ℕ) (forest : List (List Node)) → IsJunction junction →
     IsExhausted junction least forest → IsShown junction least (certified least budget claim.Infeasible None forest)
 
--- one of a stopped search stays that with the stretched plan, and breaks no rule
+-- one of a stopped search stays that with the stretched plan, breaks no rule, and what its trees prove is true
 abbrev pub StoppedShownLaw : Type 0
 StoppedShownLaw = (junction : JunctionView) (least : Ratio) (budget : ℕ) (plan stretched : Option PlanView) (forest : List (List Node)) → IsJunction junction →
     IsStretchOfAny junction least plan stretched → IsStoppedAt junction least budget plan forest →
     IsTrueStop junction least budget (certified least budget claim.Stopped stretched forest)
+
+-- the stretched plan was passed in the tree in which the plan was found
+abbrev pub PassedShownLaw : Type 0
+PassedShownLaw = (junction : JunctionView) (least : Ratio) (plan stretched : Option PlanView) (forest : List (List Node)) → IsJunction junction →
+    IsStretchOfAny junction least plan stretched → IfSome plan (IsFoundAmong junction forest) → IfSome stretched (IsPassedAmong junction forest)
 
 -- the parts of a certificate that proves its claim are in their ranges, where its least and its budget are
 abbrev pub ShownRangeLaw : Type 0

@@ -6,8 +6,8 @@ ghost use Rattle.plan_model.specs.FittedPlan.{fitted_plan_of};
 ghost use Rattle.plan_model.specs.Plan.{plan_of};
 ghost use Rattle.plan_certificate.specs.Certificate.{certificate_of};
 ghost use Rattle.plan_certificate.specs.Ranges.{IsLeast};
-ghost use Rattle.cycle_orders.specs.Forest.{IsExhausted, IsStoppedAt};
-ghost use Rattle.cycle_orders.specs.JunctionAnswer.{IfOptimal, IfInfeasible, IfStopped, IsStop, IsPlanOf, CarriesNoPlan, carried_by};
+ghost use Rattle.cycle_orders.specs.Forest.{IsExhausted, IsFoundAmong, IsStoppedAt};
+ghost use Rattle.cycle_orders.specs.JunctionAnswer.{IfOptimal, IfInfeasible, IfStopped, IsStop, IsPlanOf, IsWithinBudget, CarriesNoPlan, carried_by};
 ghost use Rattle.plan_design.specs.Design.{IsDesign, IsOwnPlan};
 ghost use Rattle.plan_design.specs.DesignLaws.{IsBest, AreStretched, certified};
 
@@ -40,6 +40,9 @@ fn searched<'j>(
     ensures stopped { IfOk result (λ answer. IfStopped answer
         (IsStoppedAt junction.now least budget)) }
     ensures without { objective ≡ Objective.Cycle → IfOk result CarriesNoPlan }
+    ensures found { IfOk result (λ answer. IfStopped answer
+        (λ p forest. IfSome p (IsFoundAmong junction.now forest))) }
+    ensures within { IfOk result (IsWithinBudget budget) }
     ensures covered { IfOk result (λ answer. IsStop answer → budget < cover_of junction.now) }
     ensures plan { IfOk result (λ answer. IfSome (carried_by answer)
         (IsPlanOf junction.now least)) }
