@@ -1,16 +1,17 @@
 -- The aspect at a second follows from the seconds since the last start.
-use Rattle.std.proofs.Common.{ℕ, zero, suc, Bool, true, false, ◌||◌, ◌≡◌, ◌≤◌, ◌<◌, ◌+◌, ◌-◌, ◌*◌, ◌%◌, ltb, leb, if◌then◌else◌, inl, inr, ◌⊎◌, refl, sym, ap, ◌∙◌, subst, arith}
-use Rattle.std.proofs.lemmas.Bool.{cases_lt, false≢true}
+use Rattle.std.proofs.Common.{ℕ, zero, suc, Bool, true, false, ◌≡◌, ◌≤◌, ◌<◌, ◌+◌, ◌-◌, ◌*◌, ◌%◌, ltb, leb, inl, inr, refl, sym, ap, ◌∙◌, subst, arith}
+use Rattle.std.specs.Cmp.{both_ways}
+use Rattle.std.proofs.lemmas.Bool.{cases_lt, false≢true, le-leb, leb-true, lt-ltb, ltb-false, ltb-true, or_cases, or_right}
 use Rattle.std.proofs.lemmas.Bool.Decides.{nat_tests}
 use Rattle.std.proofs.Math.Nat.{mod-eq_of_lt, mod_self, add-mul-mod_self_right}
 use Rattle.sig_base.specs.declared.group_times.GroupTimes.{GroupTimes}
 use Rattle.plan_model.specs.SignalPlan.{PlanView, GreenAt, start_of, green_of}
 use Rattle.plan_model.proofs.Phase.{phase, phase_below, phase_on, once}
-use Rattle.aspect_player.specs.declared.aspect.Aspect.{Aspect}
-use Rattle.aspect_player.specs.declared.aspect.Aspect.TheVariants.{Red, RedAmber, Green, Amber}
+use Rattle.aspect_player.specs.declared.aspect.Aspect.TheVariants.{Green, Amber}
 use Rattle.aspect_player.specs.Aspect.{is_green, one_of_first, was_green, will_be_green, aspect_at}
 use Rattle.aspect_player.specs.Counts.{left_at}
 use Rattle.aspect_player.specs.Phases.{aspect_by}
+use Rattle.aspect_player.proofs.Choice.{choice, same_choice, choice_green}
 
 -- what the plan of a group with these times has to keep
 pub record IsPlayed (p : PlanView) (i : ℕ) (times : GroupTimes) : Type 0 where
@@ -19,19 +20,11 @@ pub record IsPlayed (p : PlanView) (i : ℕ) (times : GroupTimes) : Type 0 where
   pub short : green_of p i + times.amber < p.cycle
   pub brief : times.amber ≤ 30
 
-or_true : (a : Bool) → (a || true) ≡ true
-or_true true = refl
-or_true false = refl
-
-or_cases : (a b : Bool) → (a || b) ≡ true → (a ≡ true) ⊎ (b ≡ true)
-or_cases true b e = inl refl
-or_cases false b e = inr e
-
 passes : (n : ℕ) (test : ℕ → Bool) (k : ℕ) → 1 ≤ k → k ≤ n → test k ≡ true → one_of_first n test ≡ true
 unfolding one_of_first
 passes zero test k some few e = absurd (omega arith)
 passes (suc n) test k some few e = elim (cases_lt k (suc n)) [
-  | inl below ↦ let later = passes n test k some (omega arith) e in rw later (or_true (test (suc n)))
+  | inl below ↦ or_right (test (suc n)) (one_of_first n test) (passes n test k some (omega arith) e)
   | inr last ↦ let same : k ≡ suc n = omega arith in let own = subst (λ m. test m ≡ true) same e in rw own refl
 ]
 
@@ -42,26 +35,6 @@ found (suc n) test e = elim (or_cases (test (suc n)) (one_of_first n test) e) [
   | inl own ↦ (suc n, omega arith, omega arith, own)
   | inr later ↦ let rest = found n test later in (rest.0, rest.1, omega (arith, rest.2), rest.3)
 ]
-
-same_bool : (a b : Bool) → (a ≡ true → b ≡ true) → (b ≡ true → a ≡ true) → a ≡ b
-same_bool true b f g = sym (f refl)
-same_bool false true f g = g refl
-same_bool false false f g = refl
-
-less : (a b : ℕ) → ltb a b ≡ true → a < b
-less a b e = grind (arith, nat_tests)
-
-is_less : (a b : ℕ) → a < b → ltb a b ≡ true
-is_less a b h = grind (arith, nat_tests)
-
-not_less : (a b : ℕ) → ltb a b ≡ false → b ≤ a
-not_less a b e = grind (arith, nat_tests)
-
-at_most : (a b : ℕ) → leb a b ≡ true → a ≤ b
-at_most a b e = grind (arith, nat_tests)
-
-is_at_most : (a b : ℕ) → a ≤ b → leb a b ≡ true
-is_at_most a b h = grind (arith, nat_tests)
 
 -- k seconds before, 30 cycles on
 before : (c s t k : ℕ) → s < c → k ≤ 30 → (phase c s (t + 30 * c - k) + k) % c ≡ phase c s t
@@ -115,13 +88,6 @@ at_start c s t early =
     let whole : phase c s t + (c - phase c s t) ≡ c = omega arith in
     phase_on c s t (c - phase c s t) (omega arith) ∙ ap (λ n. n % c) whole ∙ mod_self c
 
-abbrev choice : Bool → Bool → Bool → Aspect
-choice green amber red_amber = (if green then Green else if amber then Amber else if red_amber then RedAmber else Red)
-
-same_choice : (g g' a a' r r' : Bool) → g ≡ g' → (g ≡ false → a ≡ a') → (g ≡ false → r ≡ r') → choice g a r ≡ choice g' a' r'
-same_choice true g' a a' r r' e f h = ap (λ x. choice x a' r') e
-same_choice false g' a a' r r' e f h = ap (λ x. choice false x r) (f refl) ∙ ap (λ x. choice false a' x) (h refl) ∙ ap (λ x. choice x a' r') e
-
 pub aspect_by_left : (p : PlanView) (i t : ℕ) (times : GroupTimes) → IsPlayed p i times →
     aspect_at p i times t ≡ aspect_by (left_at p i t) p.cycle (green_of p i) times
 unfolding aspect_at
@@ -131,31 +97,25 @@ aspect_by_left p i t times played =
     let g : ℕ = green_of p i in
     let below : a < c = phase_below c (start_of p i) t (omega (arith, played.start)) in
     same_choice _ _ _ _ _ _
-    (same_bool _ _ (λ e. is_less _ _ (omega (arith, less a g e))) (λ e. is_less _ _ (omega (arith, less c (c - a + g) e))))
-    (λ red. let over : g ≤ a = not_less a g red in
-    same_bool _ _
-    (λ e. let k = found _ _ e in is_less _ _ (omega (arith, green_before p i t k.0 times.amber times played k.2 (omega arith) k.1 over (less _ _ k.3))))
-    (λ e. let under : a < g + times.amber = omega (arith, less c (c - a + g + times.amber) e) in
-    passes _ _ (a + 1 - g) (omega arith) (omega arith) (is_less _ _ (back_to_green p i t times played over under))))
-    (λ red. let over : g ≤ a = not_less a g red in
-    same_bool _ _
-    (λ e. let k = found _ _ e in is_at_most _ _ (omega (arith, k.2, green_in p i t k.0 played.start over (less _ _ k.3))))
-    (λ e. let few : c - a ≤ times.red_amber = at_most _ _ e in
-    passes _ _ (c - a) (omega arith) few (is_less _ _ (omega (arith, played.some, at_start c (start_of p i) t played.start)))))
-
-is_choice_green : (g a r : Bool) → choice g a r ≡ Green → g ≡ true
-is_choice_green true a r e = refl
-is_choice_green false true r e = cc
-is_choice_green false false true e = cc
-is_choice_green false false false e = cc
+    (both_ways _ _ (λ e. lt-ltb _ _ (omega (arith, ltb-true a g e))) (λ e. lt-ltb _ _ (omega (arith, ltb-true c (c - a + g) e))))
+    (λ red. let over : g ≤ a = ltb-false a g red in
+    both_ways _ _
+    (λ e. let k = found _ _ e in lt-ltb _ _ (omega (arith, green_before p i t k.0 times.amber times played k.2 (omega arith) k.1 over (ltb-true _ _ k.3))))
+    (λ e. let under : a < g + times.amber = omega (arith, ltb-true c (c - a + g + times.amber) e) in
+    passes _ _ (a + 1 - g) (omega arith) (omega arith) (lt-ltb _ _ (back_to_green p i t times played over under))))
+    (λ red off. let over : g ≤ a = ltb-false a g red in
+    both_ways _ _
+    (λ e. let k = found _ _ e in le-leb _ _ (omega (arith, k.2, green_in p i t k.0 played.start over (ltb-true _ _ k.3))))
+    (λ e. let few : c - a ≤ times.red_amber = leb-true _ _ e in
+    passes _ _ (c - a) (omega arith) few (lt-ltb _ _ (omega (arith, played.some, at_start c (start_of p i) t played.start)))))
 
 pub is_shown_green : (p : PlanView) (i t : ℕ) (times : GroupTimes) → aspect_at p i times t ≡ Green → GreenAt p i t
 unfolding aspect_at
-is_shown_green p i t times e = less _ _ (is_choice_green (is_green p i t) _ _ e)
+is_shown_green p i t times e = ltb-true _ _ (choice_green (is_green p i t) _ _ e)
 
 pub green_shows : (p : PlanView) (i t : ℕ) (times : GroupTimes) → GreenAt p i t → aspect_at p i times t ≡ Green
 unfolding aspect_at
-green_shows p i t times green = let e : is_green p i t ≡ true = is_less _ _ green in ap (λ x. choice x (was_green p i times.amber t) (will_be_green p i times.red_amber t)) e
+green_shows p i t times green = let e : is_green p i t ≡ true = lt-ltb _ _ green in ap (λ x. choice x (was_green p i times.amber t) (will_be_green p i times.red_amber t)) e
 
 pub amber_shows : (p : PlanView) (i t : ℕ) (times : GroupTimes) → IsPlayed p i times → green_of p i ≤ phase p.cycle (start_of p i) t →
     phase p.cycle (start_of p i) t < green_of p i + times.amber → aspect_at p i times t ≡ Amber
@@ -164,5 +124,5 @@ amber_shows p i t times played over under =
     let a : ℕ = phase c (start_of p i) t in
     let below : a < c = phase_below c (start_of p i) t (omega (arith, played.start)) in
     let red : ltb c (c - a + green_of p i) ≡ false = grind (arith, nat_tests) in
-    let on : ltb c (c - a + green_of p i + times.amber) ≡ true = is_less _ _ (omega arith) in
-    aspect_by_left p i t times played ∙ same_choice _ false _ true _ (leb (left_at p i t) times.red_amber) red (λ e. on) (λ e. refl)
+    let on : ltb c (c - a + green_of p i + times.amber) ≡ true = lt-ltb _ _ (omega arith) in
+    aspect_by_left p i t times played ∙ same_choice _ false _ true _ (leb (left_at p i t) times.red_amber) red (λ e. on) (λ e f. refl)

@@ -1,6 +1,7 @@
-mod ByPhase
-mod Timetable
-mod Safety
+pub mod Choice
+pub mod ByPhase
+pub mod Timetable
+pub mod Safety
 mod Countdown
-mod Written
+pub mod Written
 mod Playing

@@ -34,14 +34,14 @@ plays junction p i group rules fits there =
 
 green_of_row : (junction : JunctionView) (p : PlanView) (n t i : ℕ) → Shows (timetable junction p n) t i Green → GreenAt p i t
 green_of_row junction p n t i shows =
-    let there = group_there junction i (shows_in junction p n t i Green shows) in
-    is_shown_green p i t there.0.times (shows_same junction p n t i there.0 Green there.1 shows)
+    let there = group_there junction i (shows_in junction (aspect_at p) n t i Green shows) in
+    is_shown_green p i t there.0.times (shows_same junction (aspect_at p) n t i there.0 Green there.1 shows)
 
 other_of_row : (junction : JunctionView) (p : PlanView) (n t i : ℕ) (group : Group) → slice_get junction.groups i ≡ Some group →
     ShowsOther (timetable junction p n) t i → green_of p i ≤ phase p.cycle (start_of p i) t
 other_of_row junction p n t i group there other = elim (cases_lt (phase p.cycle (start_of p i) t) (green_of p i)) [
   | inl green ↦
-      let same : aspect_at p i group.times t ≡ other.0 = shows_same junction p n t i group other.0 there other.1 in
+      let same : aspect_at p i group.times t ≡ other.0 = shows_same junction (aspect_at p) n t i group other.0 there other.1 in
       absurd (other.2 (sym same ∙ green_shows p i t group.times green))
   | inr over ↦ over
 ]
@@ -51,8 +51,8 @@ clearance junction p n rules fits i j w u v is order first second = elim (cases_
   | inl apart ↦ apart
   | inr near ↦
       let shown = fits_shown junction p rules fits in
-      let hi = shows_in junction p n u i Green first in
-      let hj = shows_in junction p n v j Green second in
+      let hi = shows_in junction (aspect_at p) n u i Green first in
+      let hj = shows_in junction (aspect_at p) n v j Green second in
       let c = p.cycle in
       let si : start_of p i < c = shown_start junction p i shown hi in
       let sj : start_of p j < c = shown_start junction p j shown hj in
@@ -77,8 +77,8 @@ whole_amber junction p n rules fits i u k group there first other some few insid
     let on : phase c s (u + 1) ≡ phase c s u + 1 = phase_on c s u 1 (omega (arith, played.start)) ∙ mod-eq_of_lt (omega (arith, played.short)) in
     let later : phase c s (u + k) ≡ phase c s u + k = phase_on c s u k (omega (arith, played.start)) ∙ mod-eq_of_lt (omega (arith, played.short)) in
     let amber : aspect_at p i group.times (u + k) ≡ Amber = amber_shows p i (u + k) group.times played (omega arith) (omega arith) in
-    let h : u + k < n = omega (arith, inside, row_count junction p 0 n) in
-    subst (λ aspect. Shows (timetable junction p n) (u + k) i aspect) amber (shows_own junction p n (u + k) i group there h)
+    let h : u + k < n = omega (arith, inside, row_count junction (aspect_at p) 0 n) in
+    subst (λ aspect. Shows (timetable junction p n) (u + k) i aspect) amber (shows_own junction (aspect_at p) n (u + k) i group there h)
 
 whole_green : (junction : JunctionView) (p : PlanView) (n : ℕ) → IsJunction junction → Fits junction p → IsWholeGreen junction (timetable junction p n)
 whole_green junction p n rules fits i u m group there some before run after =

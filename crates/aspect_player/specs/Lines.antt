@@ -5,7 +5,8 @@ use Rattle.csv.specs.Writing.{default_writer, row_text}
 use Rattle.junction_model.specs.declared.group.Group.{Group}
 use Rattle.junction_model.specs.Junction.{JunctionView}
 use Rattle.plan_model.specs.SignalPlan.{PlanView}
-use Rattle.aspect_player.specs.Timetable.{row_at, timetable}
+use Rattle.aspect_player.specs.Aspect.{aspect_at}
+use Rattle.aspect_player.specs.Timetable.{Display, row_by, rows_by}
 use Rattle.aspect_player.specs.declared.aspect.Aspect.{Aspect}
 use Rattle.aspect_player.specs.declared.aspect.Aspect.TheVariants.{Red, RedAmber, Green, Amber}
 
@@ -36,9 +37,16 @@ row_lines second (row ∷ rows) = row_line second row ++ row_lines (second + 1) 
 abbrev pub rows_text : JunctionView → List (List Aspect) → List ℕ
 rows_text junction rows = header_line junction ++ row_lines 0 rows
 
--- the line of one second of a plan, and the text of n seconds
+-- the line of one second, and the text of n seconds
+abbrev pub display_line : JunctionView → Display → ℕ → List ℕ
+display_line junction display t = row_line t (row_by junction display t)
+
+abbrev pub display_text : JunctionView → Display → ℕ → List ℕ
+display_text junction display n = rows_text junction (rows_by junction display n)
+
+-- those of a plan
 abbrev pub own_line : JunctionView → PlanView → ℕ → List ℕ
-own_line junction p t = row_line t (row_at junction p t)
+own_line junction p t = display_line junction (aspect_at p) t
 
 abbrev pub played_text : JunctionView → PlanView → ℕ → List ℕ
-played_text junction p n = rows_text junction (timetable junction p n)
+played_text junction p n = display_text junction (aspect_at p) n

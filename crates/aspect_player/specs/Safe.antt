@@ -19,7 +19,7 @@ Shows rows t i aspect = option_and_then (λ row. slice_get row i) (slice_get row
 abbrev pub ShowsOther : List (List Aspect) → ℕ → ℕ → Type 0
 ShowsOther rows t i = (aspect : Aspect) × Shows rows t i aspect × (aspect ≢ Green)
 
--- from a green of group i to one of group j that conflicts with it more seconds pass than the intergreen
+-- between a green of group i and a later one of group j that conflicts with it lies at least the intergreen
 abbrev pub IsClearance : JunctionView → List (List Aspect) → Type 0
 IsClearance junction rows = (i j w u v : ℕ) → intergreen_of junction.conflicts i j ≡ Some w → u ≤ v →
     Shows rows u i Green → Shows rows v j Green → u + w < v

@@ -1,5 +1,5 @@
 -- What a call that writes lines has written.
-use Rattle.std.specs.Prelude.{ℕ, List, take, Option, Result, ◌≤◌, OnOk, OnErr, IsErrOf}
+use Rattle.std.specs.Prelude.{ℕ, List, take, Option, Result, ◌≡◌, ◌≤◌, OnOk, OnErr, IsErrOf}
 use Rattle.std.specs.Io.KnownBytes.{Appends}
 use Rattle.sig_base.specs.FaultCount.{Rose}
 use Rattle.aspect_player.specs.declared.fault.PlayFault.{PlayFault}
@@ -12,3 +12,5 @@ pub record Writes {T : Type 0} (old new : Option (List ℕ)) (text : List ℕ) (
   pub part : OnErr result ((n : ℕ) × Appends old new (take n text))
   pub later : faults_old ≤ faults_new
   pub failed : IsErrOf result Sink → Rose faults_old faults_new
+  -- the count doesn't rise behind the whole text
+  pub same : OnOk result (faults_new ≡ faults_old)

@@ -1,5 +1,6 @@
 use Rattle.std.proofs.Common.{ℕ, List, Ok, Err, ◌≡◌, ◌+◌, refl, ap, ◌∙◌, subst}
 use Rattle.junction_model.specs.Junction.{JunctionView}
+use Rattle.aspect_player.specs.Aspect.{aspect_at}
 use Rattle.aspect_player.specs.Lines.{header_line, own_line}
 use Rattle.aspect_player.specs.Player.{junction_in, plan_in, second_of}
 use Rattle.aspect_player.specs.Written.{Writes}
@@ -21,7 +22,7 @@ returns-in-Err-clause-written g c =
     let same : c.junction.result.now ≡ junction_in player = c.junction.ensures ∙ c.plan.ensures.junction in
     let P : JunctionView → Type 0 = λ j. Writes {T = Unit {0}} (g.K.Sink.written c.args.sink.now) (g.K.Sink.written c.push_header.new.sink) (header_line j)
     (g.K.Sink.faults c.args.sink.now) (g.K.Sink.faults c.push_header.new.sink) (Err c.in-Err.fault) in
-    failed_header (junction_in player) (plan_in player) c.args.seconds _ _ _ _ c.in-Err.fault (subst P same c.in-Err.ensures)
+    failed_header (junction_in player) (aspect_at (plan_in player)) c.args.seconds _ _ _ _ c.in-Err.fault (subst P same c.in-Err.ensures)
 
 pub loop-second-init : goal.loop-second-init
 loop-second-init g c =
@@ -31,7 +32,7 @@ loop-second-init g c =
     (g.K.Sink.faults c.args.sink.now) (g.K.Sink.faults c.push_header.new.sink) (Ok tt) in
     record {
       player = record { second = c.requires.start; junction = refl; plan = refl };
-      written = begun (junction_in player) (plan_in player) _ _ _ _ (subst P same c.in-Ok.ensures);
+      written = begun (junction_in player) (aspect_at (plan_in player)) _ _ _ _ (subst P same c.in-Ok.ensures);
     }
 
 pub returns-in-Err-push_second-clause-written : goal.returns-in-Err-push_second-clause-written
@@ -41,7 +42,7 @@ returns-in-Err-push_second-clause-written g c =
     let line = line_of player c.loop-second.player k c.loop-second.invariant.player in
     let P : List ℕ → Type 0 = λ l. Writes {T = Unit {0}} (g.K.Sink.written c.loop-second.sink) (g.K.Sink.written c.push_second.new.sink) l
     (g.K.Sink.faults c.loop-second.sink) (g.K.Sink.faults c.push_second.new.sink) (Err c.in-Err-push_second.fault) in
-    failed_row (junction_in player) (plan_in player) k c.args.seconds _ _ _ _ _ _ c.in-Err-push_second.fault c.loop-second-test.true
+    failed_row (junction_in player) (aspect_at (plan_in player)) k c.args.seconds _ _ _ _ _ _ c.in-Err-push_second.fault c.loop-second-test.true
     c.loop-second.invariant.written (subst P line c.in-Err-push_second.ensures.written)
 
 pub loop-second-preserved : goal.loop-second-preserved
@@ -55,5 +56,5 @@ loop-second-preserved g c =
     let step = c.in-Ok-push_second.ensures in
     record {
       player = record { second = step.on ∙ ap (λ n. n + 1) is.second; junction = step.junction ∙ is.junction; plan = step.plan ∙ is.plan };
-      written = one_more (junction_in player) (plan_in player) k _ _ _ _ _ _ c.loop-second.invariant.written (subst P line step.written);
+      written = one_more (junction_in player) (aspect_at (plan_in player)) k _ _ _ _ _ _ c.loop-second.invariant.written (subst P line step.written);
     }
