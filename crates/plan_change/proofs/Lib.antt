@@ -1,0 +1,16 @@
+pub mod Tests
+pub mod Runs
+pub mod Schedule
+pub mod PlanRuns
+pub mod Sound
+pub mod Stays
+pub mod Past
+pub mod Safety
+pub mod Turns
+pub mod Settled
+pub mod Records
+pub mod Filled
+pub mod Agreeing
+pub mod Due
+pub mod Playing
+pub mod Plain
