@@ -1,0 +1,12 @@
+pub mod Violations
+pub mod Memory
+pub mod Monitor
+pub mod Sight
+pub mod MonitorLaws
+pub mod Log
+pub mod FaultWords
+pub mod Judgement
+pub mod Lines
+pub mod Reading
+pub mod TakenRecords
+pub mod LogLaws
