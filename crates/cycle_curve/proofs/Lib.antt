@@ -1,0 +1,9 @@
+pub mod NarrowedPlans
+pub mod Rows
+pub mod LineParts
+pub mod Spelt
+pub mod RowVerdicts
+pub mod Judgements
+pub mod OneJudgement
+pub mod WrittenLines
+pub mod AcceptedRows

@@ -1,0 +1,4 @@
+pub mod Curve
+pub mod Lines
+pub mod Judged
+pub mod Laws
