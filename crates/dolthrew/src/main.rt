@@ -1,8 +1,9 @@
 //! The program: runs the command that its words spell over files and standard output, and ends with
-//! the number of the status. What it promises is the contract of `junction_program::run`.
+//! the number of the status. What it promises are the contracts of `junction_program::run`, and of
+//! `given_words` where there are no words.
 #![tactic(auto)]
 
-use junction_program::run;
+use junction_program::{given_words, run};
 use sig_base::{FileShelf, StdSink};
 use std::process::ExitCode;
 use std::rt::Env;
@@ -18,10 +19,9 @@ fn words_of<R: Env + AllocGlobal>(rt: &R) -> io::Result<Vec<String>> {
 }
 
 fn main(rt: HostRuntime) -> ExitCode {
-    let words = match words_of(&rt) {
+    let words = match given_words(words_of(&rt)) {
         Ok(words) => words,
-        Err(error) if error.kind() == io::ErrorKind::OutOfMemory => return ExitCode::from(9),
-        Err(_) => return ExitCode::from(4),
+        Err(status) => return ExitCode::from(status.number()),
     };
     let alloc = rt.alloc();
     let mut shelf = FileShelf::new(&rt, alloc);

@@ -10,7 +10,7 @@ use Rattle.junction_program.specs.Outcomes.{Answer, IsAnswered, LacksFetched, Ex
 use Rattle.junction_program.specs.Steps.{IsFetched}
 use Rattle.junction_program.specs.Commands.{RefusesJunction, RefusesFiles, Accepts, FetchesJunction, FetchesBoth, PutsNothing, junction_limit, certificate_limit}
 use Rattle.junction_program.specs.Headline.{Tells, HoldsJunction, HoldsBadJunction, HoldsBoth}
-use Rattle.junction_program.proofs.Faults.{answered_or_fault, AreHeld, none_too_long}
+use Rattle.junction_program.proofs.Faults.{answered_or_fault, AreHeld, none_too_long, shelf_cause}
 use Rattle.junction_program.proofs.Held.{not_refused, not_accepted}
 use Rattle.junction_program.specs.declared.status.Status.TheVariants.{ShelfFailed, TooLong}
 use Rattle.junction_program.proofs.Endings.{widened, not_exceeding, not_lacking}
@@ -30,10 +30,7 @@ module _ (law : RefusalLaw) (name other : List ℕ) (limit : ℕ) (run : Run) (o
   answered_not h = let x = o.answered h in not_refused law (told run) name junction x.0 (tells_exceeding (told run) other limit exceeds) accepts x.1
 
   shelf_not : run.status ≡ ShelfFailed → ⊥
-  shelf_not h = let x = (o.shelf_failed h).0 in elim x.cause [
-    | inl r ↦ rose r
-    | inr l ↦ first_held (told run) name accepts.bytes accepts.fetched l
-  ]
+  shelf_not h = rose (shelf_cause _ _ run (first_held (told run) name accepts.bytes accepts.fetched) (o.shelf_failed h).0)
 
   other_end : OrPushFault TooLong run.status
   other_end = elim (answered_or_fault run.status) [

@@ -4,7 +4,7 @@ use Rattle.std.specs.Prelude.{Option, None, Some}
 use Rattle.sig_base.specs.Shelf.{Holdings}
 use Rattle.junction_files.specs.Laws.{RefusalLaw, OneJunctionLaw}
 use Rattle.plan_certificate.specs.Laws as text
-use Rattle.certificate_checker.specs.Laws.{RulesLaw, PartLaw}
+use Rattle.certificate_checker.specs.Laws.{RulesLaw}
 use Rattle.command_words.specs.Words.{CommandView, Capacity, Cycle, Check, Play, Sample}
 use Rattle.plan_model.specs.FirstFault.{FaultLaw}
 use Rattle.aspect_player.specs.Safe.{SafetyLaw}
@@ -15,25 +15,25 @@ use Rattle.junction_program.specs.Outcomes.{Answer, IsAnswered, OrPushFault}
 use Rattle.junction_program.specs.Commands.{answers_of}
 use Rattle.junction_program.specs.Headline.{IsCommandRun}
 use Rattle.junction_program.specs.declared.status.Status.TheVariants.{Done, Refuted, BadWords, BadJunction, BadCertificate}
-use Rattle.junction_program.proofs.Faults.{answered_or_fault}
+use Rattle.junction_program.proofs.Faults.{answered_or_fault, some_put}
 use Rattle.junction_program.proofs.Spelled.{EndsAs}
 use Rattle.junction_program.proofs.DesignRuns.{design_run, claim_not_bad_words}
 use Rattle.junction_program.proofs.CheckRuns.{check_run, not_of_verdict}
 use Rattle.junction_program.proofs.PlayRuns.{play_run, status_of_play}
 use Rattle.junction_program.proofs.SampleRuns.{sample_run}
 
-pub command_run : RefusalLaw → OneJunctionLaw → text.OneCertificateLaw → text.RefusalLaw → RulesLaw → PartLaw → FaultLaw → SafetyLaw → SampleLaw → (found : Option CommandView) (run : Run) → EndsAs found run → IsCommandRun found run
-command_run refusal one one_certificate certificate_refusal rules part faults safety samples None run o = tt
-command_run refusal one one_certificate certificate_refusal rules part faults safety samples (Some (Capacity junction certificate least budget)) run o =
-    design_run objective.Capacity junction certificate least budget run o refusal one rules part
-command_run refusal one one_certificate certificate_refusal rules part faults safety samples (Some (Cycle junction certificate least budget)) run o =
-    design_run objective.Cycle junction certificate least budget run o refusal one rules part
-command_run refusal one one_certificate certificate_refusal rules part faults safety samples (Some (Check junction certificate)) run o =
+pub command_run : RefusalLaw → OneJunctionLaw → text.OneCertificateLaw → text.RefusalLaw → RulesLaw → FaultLaw → SafetyLaw → SampleLaw → (found : Option CommandView) (run : Run) → EndsAs found run → IsCommandRun found run
+command_run refusal one one_certificate certificate_refusal rules faults safety samples None run o = tt
+command_run refusal one one_certificate certificate_refusal rules faults safety samples (Some (Capacity junction certificate least budget)) run o =
+    design_run objective.Capacity junction certificate least budget run o refusal one rules
+command_run refusal one one_certificate certificate_refusal rules faults safety samples (Some (Cycle junction certificate least budget)) run o =
+    design_run objective.Cycle junction certificate least budget run o refusal one rules
+command_run refusal one one_certificate certificate_refusal rules faults safety samples (Some (Check junction certificate)) run o =
     check_run junction certificate run o refusal one one_certificate certificate_refusal
-command_run refusal one one_certificate certificate_refusal rules part faults safety samples (Some (Play junction certificate seconds)) run o =
+command_run refusal one one_certificate certificate_refusal rules faults safety samples (Some (Play junction certificate seconds)) run o =
     play_run junction certificate seconds run o refusal one one_certificate certificate_refusal faults safety
-command_run refusal one one_certificate certificate_refusal rules part faults safety samples (Some (Sample number junction certificate)) run o =
-    sample_run number junction certificate run o rules part samples
+command_run refusal one one_certificate certificate_refusal rules faults safety samples (Some (Sample number junction certificate)) run o =
+    sample_run number junction certificate run o rules samples
 
 -- no command answers that words are bad
 no_bad_words : (found : Option CommandView) (shelf : Option Holdings) (answer : Answer) → answers_of found shelf answer → answer.status ≡ BadWords → found ≡ None
@@ -73,7 +73,7 @@ none_told : (run : Run) → EndsAs None run → OrPushFault BadWords run.status
 none_told run o = elim (answered_or_fault run.status) [
   | inl answered ↦ (let x = o.answered answered in inl (x.2.status ∙ ap (λ (a : Answer). a.status) x.1))
   | inr f ↦ elim f [
-    | inl e ↦ absurd (elim (o.shelf_failed e).0.asked [ inl x ↦ x.2 | inr x ↦ cc (x.2) ])
+    | inl e ↦ absurd (elim (o.shelf_failed e).0 [ inl x ↦ x.asked | inr x ↦ some_put x.made x.failed x.meant ])
     | inr g ↦ elim g [ inl e ↦ inr (inl e) | inr h ↦ elim h [ inl e ↦ inr (inr e) | inr e ↦ absurd (o.too_long e).0.asked.2 ] ]
   ]
 ]

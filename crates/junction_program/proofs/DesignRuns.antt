@@ -8,22 +8,22 @@ use Rattle.junction_model.specs.Junction.{JunctionView}
 use Rattle.junction_files.specs.Laws.{RefusalLaw, OneJunctionLaw}
 use Rattle.plan_model.specs.Claims.{IsInfeasible}
 use Rattle.plan_model.specs.SignalPlan.{PlanView}
-use Rattle.plan_certificate.specs.Certificate.{CertificateView}
+use Rattle.plan_certificate.specs.Certificate.{CertificateView, node_count}
 use Rattle.plan_certificate.specs.declared.claim.Claim.{Claim}
 use Rattle.plan_certificate.specs.declared.claim.Claim.TheVariants as claim
-use Rattle.certificate_checker.specs.Laws.{RulesLaw, PartLaw}
+use Rattle.certificate_checker.specs.Laws.{RulesLaw}
 use Rattle.certificate_checker.specs.Proves.{ClaimHolds}
 use Rattle.plan_design.specs.Design.{IsClaimFor, claim_of}
 use Rattle.plan_design.specs.declared.objective.Objective.{Objective}
 use Rattle.plan_design.specs.declared.objective.Objective.TheVariants as objective
 use Rattle.junction_program.specs.Runs.{Run, told, put_all, ShelfRose}
-use Rattle.junction_program.specs.Outcomes.{Answer, IsAnswered, Gives, Outcome}
+use Rattle.junction_program.specs.Outcomes.{Answer, IsAnswered, Gives, FetchFault, ShelfFault, Outcome}
 use Rattle.junction_program.specs.Commands.{IsAskedDesign, Designs, DesignAnswers, FetchesJunction, PutsDesign, status_of_claim}
-use Rattle.junction_program.specs.Headline.{HoldsJunction, IsRefusedByCause, Reports, LeavesDesign, ShowsClaim, ShowsStop, IsDesignRun}
+use Rattle.junction_program.specs.Headline.{HoldsJunction, HoldsBadJunction, IsRefusedByCause, Reports, LeavesDesign, ShowsClaim, ShowsStop, IsDesignRun}
 use Rattle.junction_program.specs.declared.status.Status.{Status}
 use Rattle.junction_program.specs.declared.status.Status.TheVariants.{Done, Infeasible, Stopped, BadWords, BadJunction, SinkFailed, Memory}
 use Rattle.junction_program.proofs.Accepted.{junction_held}
-use Rattle.junction_program.proofs.Faults.{answered_or_fault, AreHeld, answered_or_outside, told_always, no_fault, answer_put}
+use Rattle.junction_program.proofs.Faults.{answered_or_fault, AreHeld, uncounted, caused_always, answered_or_outside, no_fault, answer_put, some_put}
 use Rattle.junction_program.proofs.Held.{same_junction, not_refused, not_accepted}
 
 put_back : (old new : Option Holdings) (name bytes : List ℕ) → new ≡ put_all old ((name, bytes) ∷ []) → Puts old new name bytes
@@ -122,22 +122,23 @@ module _ (own : Objective) (name certificate : List ℕ) (least : Fraction) (bud
         accepted = d.accepted;
         leaves = leaves answer d g.put;
         claim_is = is;
+        within = subst (λ n. node_count d.certificate ≤ n) d.made.design.budget_is d.made.design.within;
         proves = whole.proves;
         holds = whole.holds;
         verdict = ((law d.junction d.certificate d.accepted.spelled.rules whole.proves).0, whole.proves);
         reports = reports answer d g;
       }
 
-  stopped : PartLaw → (answer : Answer) (d : Designs (told run) name certificate own least budget answer) → Gives answer run → d.certificate.claim ≡ claim.Stopped →
+  stopped : (answer : Answer) (d : Designs (told run) name certificate own least budget answer) → Gives answer run → d.certificate.claim ≡ claim.Stopped →
       ShowsStop own name certificate least budget run
-  stopped law answer d g is =
+  stopped answer d g is =
       let stop = d.made.design.stopped is in
       record {
         junction = d.junction;
         accepted = d.accepted;
         leaves = leaves answer d g.put;
         stop = stop;
-        part = law d.junction d.certificate d.accepted.spelled.rules stop.part;
+        part = stop.holds;
         uncovered = d.made.design.uncovered is;
         verdict = (stop.rules, stop.part);
         reports = reports answer d g;
@@ -182,27 +183,34 @@ module _ (own : Objective) (name certificate : List ℕ) (least : Fraction) (bud
         | inr d ↦ subst (LeavesDesign own name certificate least budget run) (same_junction one (told run) name d.junction junction held.tells d.accepted held.accepted) (leaves part.answer d part.put)
       ]
 
+  -- where the bytes spell no junction, nothing is put
+  fetch_fault : HoldsBadJunction (told run) name → ShelfFault (FetchesJunction name) (PutsDesign (told run) name certificate own least budget) run → FetchFault (FetchesJunction name) run
+  fetch_fault bad fault = elim fault [
+    | inl f ↦ f
+    | inr p ↦ absurd (elim p.meant [ inl none ↦ some_put p.made p.failed none | inr d ↦ not_accepted (told run) name bad d.1.junction d.1.accepted ])
+  ]
+
   refused_by_cause : IsRefusedByCause name run
   refused_by_cause = record {
     bad_junction = λ is. let x = o.answered (subst IsAnswered (sym is) tt) in elim x.1 [
       | inl r ↦ (x.0, r, x.2)
       | inr d ↦ absurd (not_bad_junction d.certificate.claim (claim_status BadJunction is x.0 d x.2))
     ];
-    bad_junction_always = λ bad. told_always _ _ _ run o (junction_held name run bad.bytes bad.tells bad.fetched) BadJunction (λ answered. let x = o.answered answered in elim x.1 [
+    bad_junction_always = λ bad. caused_always _ _ _ run o (junction_held name run bad.bytes bad.tells bad.fetched) BadJunction _ (fetch_fault bad) (λ answered. let x = o.answered answered in elim x.1 [
       | inl r ↦ x.2.status ∙ ap (λ (a : Answer). a.status) r.told
       | inr d ↦ absurd (not_accepted (told run) name bad d.junction d.accepted)
     ]);
   }
 
-  pub design_run : RefusalLaw → OneJunctionLaw → RulesLaw → PartLaw → IsDesignRun own name certificate least budget run
-  design_run refusal one rules part = record {
+  pub design_run : RefusalLaw → OneJunctionLaw → RulesLaw → IsDesignRun own name certificate least budget run
+  design_run refusal one rules = record {
     done = λ is. let x = design_behind Done is tt (λ e. cc) in
         let claimed = done_behind own x.1.certificate.claim (claim_status Done is x.0 x.1 x.2) x.1.made.design.claimed in
         shown rules (claim_of own) x.0 x.1 x.2 claimed (done_claimed own);
     infeasible = λ is. let x = design_behind Infeasible is tt (λ e. cc) in
         shown rules claim.Infeasible x.0 x.1 x.2 (infeasible_behind x.1.certificate.claim (claim_status Infeasible is x.0 x.1 x.2)) (λ e. cc);
     stopped = λ is. let x = design_behind Stopped is tt (λ e. cc) in
-        stopped part x.0 x.1 x.2 (stopped_behind x.1.certificate.claim (claim_status Stopped is x.0 x.1 x.2));
+        stopped x.0 x.1 x.2 (stopped_behind x.1.certificate.claim (claim_status Stopped is x.0 x.1 x.2));
     infeasible_always = λ junction held none. elim (answered_or_outside _ _ _ run o (held_files junction held) Stopped) [
       | inr f ↦ inr f
       | inl answered ↦ (
@@ -210,7 +218,7 @@ module _ (own : Objective) (name certificate : List ℕ) (least : Fraction) (bud
           let same : x.1.junction ≡ junction = same_junction one (told run) name x.1.junction junction held.tells x.1.accepted held.accepted in
           elim (design_infeasible x.1.junction junction own least budget x.1.certificate x.1.made same none) [
             | inl e ↦ inl (own_status x.0 x.1 x.2 ∙ e)
-            | inr e ↦ inr (inl (inl (own_status x.0 x.1 x.2 ∙ e)))
+            | inr e ↦ inr (inl (inl (own_status x.0 x.1 x.2 ∙ e), uncounted _ _ _ run o (held_files junction held) answered))
           ])
     ];
     covered = λ junction held covers is.

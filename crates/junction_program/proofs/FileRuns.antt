@@ -9,14 +9,14 @@ use Rattle.plan_certificate.specs.Reads as spelling
 use Rattle.plan_certificate.specs.declared.fault.CertificateFault.{CertificateFault}
 use Rattle.plan_certificate.specs.declared.fault.CertificateFault.TheVariants as certificate_fault
 use Rattle.junction_program.specs.Runs.{Run, told, put_all}
-use Rattle.junction_program.specs.Outcomes.{Answer, IsAnswered, Gives, HasPut, Outcome}
-use Rattle.junction_program.specs.Commands.{IsOnFiles, FileAnswers, FetchesBoth, PutsNothing, certificate_limit}
-use Rattle.junction_program.specs.Headline.{HoldsBoth, AreRefusedByCause}
+use Rattle.junction_program.specs.Outcomes.{Answer, IsAnswered, Gives, HasPut, FetchFault, ShelfFault, Outcome}
+use Rattle.junction_program.specs.Commands.{IsOnFiles, FileAnswers, FetchesJunction, FetchesBoth, PutsNothing, certificate_limit}
+use Rattle.junction_program.specs.Headline.{HoldsBoth, HoldsBadJunction, AreRefusedByCause}
 use Rattle.junction_program.specs.declared.status.Status.{Status}
 use Rattle.junction_program.specs.declared.status.Status.TheVariants.{BadJunction, BadCertificate}
 use Rattle.junction_program.proofs.Accepted.{files_held, first_file_held}
 use Rattle.junction_program.proofs.Endings.{put_nothing}
-use Rattle.junction_program.proofs.Faults.{answered_or_fault, told_always}
+use Rattle.junction_program.proofs.Faults.{answered_or_fault, caused_always, some_put}
 use Rattle.junction_program.proofs.Held.{same_bytes, same_junction, not_refused, not_accepted}
 
 -- an answer on files has none of the statuses of refused ones, and puts nothing
@@ -58,15 +58,25 @@ module _ (kind : JunctionView → CertificateView → Answer → Type 0) (own_an
   after_kept : HasPut PutsNothing run → run.after.shelf.holds ≡ told run
   after_kept kept = after_puts kept.made kept.meant kept.put
 
+  -- the shelf fails only in a fetch
+  fetch_fault : ShelfFault (FetchesBoth (told run) name certificate) PutsNothing run → FetchFault (FetchesBoth (told run) name certificate) run
+  fetch_fault fault = elim fault [ inl f ↦ f | inr p ↦ absurd (some_put p.made p.failed p.meant) ]
+
+  -- beside bytes that spell no junction, in the fetch of these
+  first_fault : HoldsBadJunction (told run) name → ShelfFault (FetchesBoth (told run) name certificate) PutsNothing run → FetchFault (FetchesJunction name) run
+  first_fault bad fault =
+      let f = fetch_fault fault in
+      record { name = f.name; limit = f.limit; asked = elim f.asked [ inl own ↦ own | inr other ↦ absurd (not_accepted (told run) name bad other.2.0 other.2.1) ]; cause = f.cause; same = f.same }
+
   pub same : run.after.shelf.holds ≡ told run
   same = elim (answered_or_fault run.status) [
     | inl answered ↦ (let x = o.answered answered in after_puts x.0.puts (nothing_put x.0 x.1) x.2.put)
     | inr f ↦ elim f [
-      | inl e ↦ after_kept (o.shelf_failed e).0.kept
+      | inl e ↦ (fetch_fault (o.shelf_failed e).0).same
       | inr g ↦ elim g [
         | inl e ↦ elim (o.sink_failed e).1 [
           | inl p ↦ after_puts p.answer.puts (nothing_put p.answer p.meant) p.put
-          | inr q ↦ elim q [ inl s ↦ after_kept s.0.kept | inr l ↦ l.0.same ]
+          | inr q ↦ elim q [ inl s ↦ (fetch_fault s.0).same | inr l ↦ l.0.same ]
         ]
         | inr h ↦ elim h [ inl e ↦ after_kept (o.memory e).0 | inr e ↦ (o.too_long e).0.same ]
       ]
@@ -110,7 +120,7 @@ module _ (kind : JunctionView → CertificateView → Answer → Type 0) (own_an
           ]
           | inr own ↦ absurd ((own_of (x.0, own, x.2)).accepted (sym x.2.status ∙ is))
         ];
-        bad_junction_always = λ bad. told_always _ _ _ run o (first_file_held name certificate run bad) BadJunction (λ answered. let x = o.answered answered in elim x.1 [
+        bad_junction_always = λ bad. caused_always _ _ _ run o (first_file_held name certificate run bad) BadJunction _ (first_fault bad) (λ answered. let x = o.answered answered in elim x.1 [
           | inl y ↦ elim y [
             | inl r ↦ x.2.status ∙ ap (λ (a : Answer). a.status) r.told
             | inr r ↦ absurd (not_accepted (told run) name bad r.junction r.accepted)
@@ -125,7 +135,7 @@ module _ (kind : JunctionView → CertificateView → Answer → Type 0) (own_an
         ]
         | inr own ↦ absurd ((own_of (x.0, own, x.2)).found (sym x.2.status ∙ is))
       ];
-      bad_certificate_always = λ junction bad. told_always _ _ _ run o (files_held name certificate run junction bad.bytes bad.held bad.fetched) BadCertificate (λ answered. let x = o.answered answered in elim x.1 [
+      bad_certificate_always = λ junction bad. caused_always _ _ _ run o (files_held name certificate run junction bad.bytes bad.held bad.fetched) BadCertificate _ fetch_fault (λ answered. let x = o.answered answered in elim x.1 [
         | inl y ↦ elim y [
           | inl r ↦ absurd (not_refused refusal (told run) name junction x.0 bad.held.tells bad.held.accepted r)
           | inr r ↦ x.2.status ∙ ap (λ (a : Answer). a.status) r.told

@@ -1,9 +1,10 @@
 -- What the answers of a sample show.
-use Rattle.std.proofs.Common.{ℕ, List, ◌∷◌, ◌≡◌, ◌≢◌, inl, inr, sym, ap, ◌∙◌, subst}
+use Rattle.std.proofs.Common.{ℕ, List, ◌∷◌, ◌≡◌, ◌≢◌, ◌≤◌, inl, inr, sym, ap, ◌∙◌, subst}
 use Rattle.std.specs.Io.KnownBytes.{Appends}
+use Rattle.plan_certificate.specs.Certificate.{node_count}
 use Rattle.plan_certificate.specs.declared.claim.Claim.{Claim}
 use Rattle.plan_certificate.specs.declared.claim.Claim.TheVariants as claim
-use Rattle.certificate_checker.specs.Laws.{RulesLaw, PartLaw}
+use Rattle.certificate_checker.specs.Laws.{RulesLaw}
 use Rattle.command_words.specs.Options.{default_least, default_budget}
 use Rattle.sample_junctions.specs.Sample.{SampleLaw}
 use Rattle.plan_design.specs.declared.objective.Objective.TheVariants as objective
@@ -15,7 +16,7 @@ use Rattle.junction_program.specs.Headline.{LeavesSample, SumsUp, ShowsSampleCla
 use Rattle.junction_program.specs.declared.status.Status.{Status}
 use Rattle.junction_program.specs.declared.status.Status.TheVariants.{Done, Infeasible, Stopped}
 use Rattle.junction_program.proofs.DesignRuns.{done_behind, infeasible_behind, stopped_behind, design_infeasible, not_covered, searched}
-use Rattle.junction_program.proofs.Faults.{answered_or_fault, AreHeld, answered_or_outside, no_fault, answer_put}
+use Rattle.junction_program.proofs.Faults.{answered_or_fault, AreHeld, uncounted, answered_or_outside, no_fault, answer_put}
 
 module _ (number : ℕ) (name certificate : List ℕ) (run : Run)
     (o : Outcome (Samples number name certificate) FetchesNothing (PutsSample number name certificate) run) where
@@ -49,19 +50,20 @@ module _ (number : ℕ) (name certificate : List ℕ) (run : Run)
       record {
         leaves = leaves answer s g.put;
         claim_is = is;
+        within = subst (λ n. node_count s.certifies.certificate ≤ n) s.certifies.made.design.budget_is s.certifies.made.design.within;
         proves = whole.proves;
         holds = whole.holds;
         verdict = ((law s.junction s.certifies.certificate s.file.spelled.rules whole.proves).0, whole.proves);
         sums_up = sums_up answer s g;
       }
 
-  stopped : PartLaw → (answer : Answer) (s : Samples number name certificate answer) (g : Gives answer run) → s.certifies.certificate.claim ≡ claim.Stopped → ShowsSampleStop number name certificate run
-  stopped law answer s g is =
+  stopped : (answer : Answer) (s : Samples number name certificate answer) (g : Gives answer run) → s.certifies.certificate.claim ≡ claim.Stopped → ShowsSampleStop number name certificate run
+  stopped answer s g is =
       let stop = s.certifies.made.design.stopped is in
       record {
         leaves = leaves answer s g.put;
         stop = stop;
-        part = law s.junction s.certifies.certificate s.file.spelled.rules stop.part;
+        part = stop.holds;
         uncovered = s.certifies.made.design.uncovered is;
         verdict = (stop.rules, stop.part);
         sums_up = sums_up answer s g;
@@ -70,21 +72,21 @@ module _ (number : ℕ) (name certificate : List ℕ) (run : Run)
   no_fetch : AreHeld FetchesNothing run
   no_fetch = record { held = λ lacks. lacks.2; short = λ fault. fault.asked.2 }
 
-  pub sample_run : RulesLaw → PartLaw → SampleLaw → IsSampleRun number name certificate run
-  sample_run rules part law = record {
+  pub sample_run : RulesLaw → SampleLaw → IsSampleRun number name certificate run
+  sample_run rules law = record {
     done = λ is. let x = o.answered (subst IsAnswered (sym is) tt) in
         claimed rules x.0 x.1 x.2 claim.Capacity (done_behind objective.Capacity x.1.certifies.certificate.claim (claim_status x.0 x.1 x.2 Done is) x.1.certifies.made.design.claimed) (λ e. cc);
     infeasible = λ is. let x = o.answered (subst IsAnswered (sym is) tt) in
         claimed rules x.0 x.1 x.2 claim.Infeasible (infeasible_behind x.1.certifies.certificate.claim (claim_status x.0 x.1 x.2 Infeasible is)) (λ e. cc);
     stopped = λ is. let x = o.answered (subst IsAnswered (sym is) tt) in
-        stopped part x.0 x.1 x.2 (stopped_behind x.1.certifies.certificate.claim (claim_status x.0 x.1 x.2 Stopped is));
+        stopped x.0 x.1 x.2 (stopped_behind x.1.certifies.certificate.claim (claim_status x.0 x.1 x.2 Stopped is));
     infeasible_always = λ junction sample none. elim (answered_or_outside _ _ _ run o no_fetch Stopped) [
       | inr f ↦ inr f
       | inl answered ↦ (
           let x = o.answered answered in
           elim (design_infeasible x.1.junction junction objective.Capacity default_least default_budget x.1.certifies.certificate x.1.certifies.made (law number x.1.junction junction x.1.file.sample sample) none) [
             | inl e ↦ inl (own_status x.0 x.1 x.2 ∙ e)
-            | inr e ↦ inr (inl (inl (own_status x.0 x.1 x.2 ∙ e)))
+            | inr e ↦ inr (inl (inl (own_status x.0 x.1 x.2 ∙ e), uncounted _ _ _ run o no_fetch answered))
           ])
     ];
     covered = λ junction sample covers is.

@@ -11,7 +11,7 @@ use Rattle.plan_model.specs.SignalPlan.{PlanView}
 use Rattle.aspect_player.specs.Lines.{played_text}
 use Rattle.aspect_player.specs.Safe.{IsSafe}
 use Rattle.aspect_player.specs.Timetable.{timetable}
-use Rattle.plan_certificate.specs.Certificate.{CertificateView}
+use Rattle.plan_certificate.specs.Certificate.{CertificateView, node_count}
 use Rattle.plan_certificate.specs.Reads as spelling
 use Rattle.plan_certificate.specs.Text.{text_of}
 use Rattle.plan_certificate.specs.declared.claim.Claim.{Claim}
@@ -32,9 +32,9 @@ use Rattle.report_text.specs.Verdict.{verdict_line}
 use Rattle.command_words.specs.Words.{CommandView, Capacity, Cycle, Check, Play, Sample}
 use Rattle.plan_design.specs.declared.objective.Objective.TheVariants as objective
 use Rattle.junction_program.specs.Runs.{Run, told, ShelfRose, SinkRose, Printed, put_all}
-use Rattle.junction_program.specs.Outcomes.{Answer, Gives, OrOutsideFault}
+use Rattle.junction_program.specs.Outcomes.{Answer, Gives, OrOutsideFault, OrFetchFault}
 use Rattle.junction_program.specs.Steps.{IsFetched}
-use Rattle.junction_program.specs.Commands.{RefusesJunction, Accepts, RefusesCertificate, Finds, IsAskedDesign, IsOnFiles, RefusesPlan, SpellsSample, junction_limit, certificate_limit}
+use Rattle.junction_program.specs.Commands.{RefusesJunction, Accepts, RefusesCertificate, Finds, IsAskedDesign, IsOnFiles, RefusesPlan, SpellsSample, FetchesJunction, FetchesBoth, junction_limit, certificate_limit}
 use Rattle.junction_program.specs.declared.status.Status.TheVariants.{Done, Infeasible, Stopped, Refuted, BadJunction, BadCertificate, SinkFailed, Memory}
 
 abbrev pub Tells : Option Holdings → Type 0
@@ -74,17 +74,17 @@ Ends answers run = (answer : Answer) × answers answer × Gives answer run
 pub record IsRefusedByCause (junction_name : List ℕ) (run : Run) : Type 0 where
   -- the bytes under the name are refused, and the line tells their first fault
   pub bad_junction : run.status ≡ BadJunction → Ends (RefusesJunction (told run) junction_name) run
-  -- where they spell no junction, this is told, unless the outside fails
-  pub bad_junction_always : HoldsBadJunction (told run) junction_name → OrOutsideFault BadJunction run
+  -- where they spell no junction, this is told, unless their fetch fails
+  pub bad_junction_always : HoldsBadJunction (told run) junction_name → OrFetchFault BadJunction (FetchesJunction junction_name) run
 
 pub record AreRefusedByCause (junction_name certificate_name : List ℕ) (run : Run) : Type 0 where
   pub junction : IsRefusedByCause junction_name run
   -- the bytes under the certificate's name spell none for the junction, and the line tells their first fault
   pub bad_certificate : run.status ≡ BadCertificate →
       Ends (RefusesCertificate (told run) junction_name certificate_name) run
-  -- where they spell none, this is told, unless the outside fails
+  -- where they spell none, this is told, unless the fetch of one of the two files fails
   pub bad_certificate_always : (junction : JunctionView) → HoldsBadCertificate (told run) junction_name certificate_name junction →
-      OrOutsideFault BadCertificate run
+      OrFetchFault BadCertificate (FetchesBoth (told run) junction_name certificate_name) run
 
 -- ---- designs
 
@@ -101,12 +101,14 @@ module _ (own : Objective) (junction_name certificate_name : List ℕ) (least : 
     pub made : IsAskedDesign junction own least budget certificate
     pub put : Puts (told run) run.after.shelf.holds certificate_name (text_of certificate)
 
-  -- a certificate of this claim is left: it proves the claim, and the claim is true of all plans of the junction
+  -- a certificate of this claim is left, with no more visited nodes than the budget: it proves the claim, and the claim is true
+  -- of all plans of the junction
   pub record ShowsClaim (claimed : Claim) : Type 0 where
     pub junction : JunctionView
     pub accepted : Accepts (told run) junction_name junction
     pub leaves : LeavesDesign junction
     pub claim_is : leaves.certificate.claim ≡ claimed
+    pub within : node_count leaves.certificate ≤ budget
     pub proves : ProvesClaim junction leaves.certificate
     pub holds : IsTrueClaim junction leaves.certificate
     pub verdict : IsVerdict junction leaves.certificate Proved
@@ -244,10 +246,12 @@ module _ (number : ℕ) (junction_name certificate_name : List ℕ) (run : Run) 
     pub made : IsAskedDesign junction objective.Capacity default_least default_budget certificate
     pub put : run.after.shelf.holds ≡ put_all (told run) ((junction_name, bytes) ∷ ((certificate_name, text_of certificate) ∷ []))
 
-  -- both are left; the certificate proves this claim, which is true of all plans of the sample
+  -- both are left; the certificate has no more visited nodes than the budget, and proves this claim, which is true of all plans
+  -- of the sample
   pub record ShowsSampleClaim (claimed : Claim) : Type 0 where
     pub leaves : LeavesSample
     pub claim_is : leaves.certificate.claim ≡ claimed
+    pub within : node_count leaves.certificate ≤ default_budget
     pub proves : ProvesClaim leaves.junction leaves.certificate
     pub holds : IsTrueClaim leaves.junction leaves.certificate
     pub verdict : IsVerdict leaves.junction leaves.certificate Proved

@@ -1,5 +1,5 @@
 -- What a run finds outside, and what it leaves.
-use Rattle.std.specs.Prelude.{ℕ, List, [], ◌∷◌, Option, None, Some}
+use Rattle.std.specs.Prelude.{ℕ, List, [], ◌∷◌, Option, None, Some, ◌<◌}
 use Rattle.std.specs.Io.KnownBytes.{Appends}
 use Rattle.sig_base.specs.FaultCount.{Rose}
 use Rattle.sig_base.specs.Shelf.{Holdings, with_held}
@@ -52,6 +52,16 @@ RefusalsRose run = Rose run.before.shelf.refusals run.after.shelf.refusals
 
 abbrev pub SinkRose : Run → Type 0
 SinkRose run = Rose run.before.sink.faults run.after.sink.faults
+
+-- counts that are greater after the run; one that stands at its end as the run begins can't be
+abbrev pub CountsShelfFault : Run → Type 0
+CountsShelfFault run = run.before.shelf.faults < run.after.shelf.faults
+
+abbrev pub CountsRefusal : Run → Type 0
+CountsRefusal run = run.before.shelf.refusals < run.after.shelf.refusals
+
+abbrev pub CountsSinkFault : Run → Type 0
+CountsSinkFault run = run.before.sink.faults < run.after.sink.faults
 
 -- the run pushed this text
 abbrev pub Printed : Run → List ℕ → Type 0

@@ -8,11 +8,11 @@ use Rattle.junction_program.specs.Outcomes.{Answer, OrPushFault}
 use Rattle.junction_program.specs.declared.status.Status.{Status}
 use Rattle.junction_program.specs.declared.status.Status.TheVariants.{SinkFailed, Memory}
 
--- nothing was put or pushed, and no count of the shelf fell
-pub record IsLater (before after : Outside) : Type 0 where
+-- nothing was put or pushed, and no fault was counted
+pub record IsUnchanged (before after : Outside) : Type 0 where
   pub holds : after.shelf.holds ≡ before.shelf.holds
-  pub faults : before.shelf.faults ≤ after.shelf.faults
-  pub refusals : before.shelf.refusals ≤ after.shelf.refusals
+  pub faults : after.shelf.faults ≡ before.shelf.faults
+  pub refusals : after.shelf.refusals ≡ before.shelf.refusals
   pub sink : after.sink ≡ before.sink
 
 -- the bytes of a name, where the shelf tells them
@@ -20,17 +20,18 @@ pub record IsFetched (shelf : Option Holdings) (name : List ℕ) (limit : ℕ) (
   pub short : length bytes ≤ limit
   pub told_bytes : IfSome shelf (λ m. held m name ≡ Some bytes)
 
--- the name was made to hold the bytes, nothing was pushed, and no count of the shelf fell
+-- the name was made to hold the bytes, nothing was pushed, and no fault was counted
 pub record IsPut (name bytes : List ℕ) (before after : Outside) : Type 0 where
   pub holds : after.shelf.holds ≡ put_all before.shelf.holds ((name, bytes) ∷ [])
-  pub faults : before.shelf.faults ≤ after.shelf.faults
-  pub refusals : before.shelf.refusals ≤ after.shelf.refusals
+  pub faults : after.shelf.faults ≡ before.shelf.faults
+  pub refusals : after.shelf.refusals ≡ before.shelf.refusals
   pub sink : after.sink ≡ before.sink
 
 -- one push of the text of a status, or the fault of the push
 pub record IsPushed (text : List ℕ) (status : Status) (before after : SinkView) (given : Status) : Type 0 where
   pub ends : OrPushFault status given
   pub whole : given ≡ status → Appends before.written after.written text
+  pub uncounted : given ≡ status → after.faults ≡ before.faults
   pub fault : given ≡ SinkFailed → Rose before.faults after.faults
   pub part : given ≡ SinkFailed → (n : ℕ) × Appends before.written after.written (take n text)
   pub nothing : given ≡ Memory → Keeps before.written after.written
@@ -39,6 +40,7 @@ pub record IsPushed (text : List ℕ) (status : Status) (before after : SinkView
 pub record IsPushedInParts (text : List ℕ) (status : Status) (before after : SinkView) (given : Status) : Type 0 where
   pub ends : OrPushFault status given
   pub whole : given ≡ status → Appends before.written after.written text
+  pub uncounted : given ≡ status → after.faults ≡ before.faults
   pub fault : given ≡ SinkFailed → Rose before.faults after.faults
   pub part : (given ≡ SinkFailed) ⊎ (given ≡ Memory) → (n : ℕ) × Appends before.written after.written (take n text)
 

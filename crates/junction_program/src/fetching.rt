@@ -1,7 +1,7 @@
 ghost use Rattle.std.specs.Prelude.{◌≡◌, [], IfOk, OnOk, IfErr};
 ghost use Rattle.junction_program.specs.Runs.{outside, ran};
 ghost use Rattle.junction_program.specs.Outcomes.{Outcome};
-ghost use Rattle.junction_program.specs.Steps.{IsLater, IsFetched};
+ghost use Rattle.junction_program.specs.Steps.{IsUnchanged, IsFetched};
 
 use crate::ending::refuse;
 use crate::status::Status;
@@ -17,7 +17,7 @@ pub fn fetched<S: Shelf, K: Sink>(
     shelf: &mut S,
     out: &mut K,
 ) -> Result<Vec<u8>, Status>
-    ensures later { OnOk result (IsLater
+    ensures unchanged { OnOk result (IsUnchanged
         (outside S.holds S.faults S.refusals shelf.old K.written K.faults out.old)
         (outside S.holds S.faults S.refusals shelf.new K.written K.faults out.new)) }
     ensures bytes { IfOk result (λ v. IsFetched (S.holds shelf.old) name.now limit v.items) }

@@ -4,7 +4,7 @@ ghost use Rattle.plan_certificate.specs.Certificate.{certificate_of};
 ghost use Rattle.plan_certificate.specs.Ranges.{IsInRange};
 ghost use Rattle.junction_program.specs.Runs.{outside, ran};
 ghost use Rattle.junction_program.specs.Outcomes.{Outcome};
-ghost use Rattle.junction_program.specs.Steps.{IsLater};
+ghost use Rattle.junction_program.specs.Steps.{IsUnchanged};
 ghost use Rattle.junction_program.specs.Commands.{Accepts, Finds, RefusesFiles, FetchesBoth, PutsNothing};
 
 use crate::ending::refuse;
@@ -36,7 +36,7 @@ pub fn accepted_files<S: Shelf, K: Sink>(
     shelf: &mut S,
     out: &mut K,
 ) -> Result<Files, Status>
-    ensures later { OnOk result (IsLater
+    ensures unchanged { OnOk result (IsUnchanged
         (outside S.holds S.faults S.refusals shelf.old K.written K.faults out.old)
         (outside S.holds S.faults S.refusals shelf.new K.written K.faults out.new)) }
     ensures accepted { IfOk result (λ files.

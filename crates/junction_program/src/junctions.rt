@@ -2,7 +2,7 @@ ghost use Rattle.std.specs.Prelude.{◌≡◌, OnOk, IfOk, IfErr};
 ghost use Rattle.junction_files.specs.Line.{fault_line_of};
 ghost use Rattle.junction_program.specs.Runs.{outside, ran};
 ghost use Rattle.junction_program.specs.Outcomes.{Outcome};
-ghost use Rattle.junction_program.specs.Steps.{IsLater, IsPushed, sink_of};
+ghost use Rattle.junction_program.specs.Steps.{IsUnchanged, IsPushed, sink_of};
 ghost use Rattle.junction_program.specs.Commands.{RefusesJunction, Accepts, FetchesJunction, PutsNothing};
 
 use crate::ending::end_with;
@@ -34,7 +34,7 @@ pub fn accepted_junction<S: Shelf, K: Sink>(
     shelf: &mut S,
     out: &mut K,
 ) -> Result<Junction, Status>
-    ensures later { OnOk result (IsLater
+    ensures unchanged { OnOk result (IsUnchanged
         (outside S.holds S.faults S.refusals shelf.old K.written K.faults out.old)
         (outside S.holds S.faults S.refusals shelf.new K.written K.faults out.new)) }
     ensures accepted { IfOk result (λ junction. Accepts (S.holds shelf.old) name.now junction) }

@@ -17,7 +17,9 @@ mod putting;
 mod sampling;
 mod status;
 mod top_call;
+mod words;
 
 pub use command_words::{Command, read_words};
 pub use status::Status;
 pub use top_call::run;
+pub use words::given_words;

@@ -12,7 +12,7 @@ use crate::playing::play;
 use crate::sampling::design_sample;
 use crate::status::Status;
 use aspect_player::safety_law;
-use certificate_checker::{part_law, rules_law};
+use certificate_checker::rules_law;
 use command_words::{Command, read_words};
 use junction_files::reading_laws;
 use plan_certificate::text_laws;
@@ -103,7 +103,6 @@ pub fn run<S: Shelf, K: Sink>(alloc: Global, words: &[String], shelf: &mut S, ou
     reading_laws();
     text_laws();
     rules_law();
-    part_law();
     fault_law();
     safety_law();
     sample_law();

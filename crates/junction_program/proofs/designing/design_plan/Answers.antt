@@ -11,13 +11,13 @@ use Rattle.junction_program.proofs.Endings.{memory_later, put_later}
 use Rattle.junction_program.proofs.designing.design_plan.Goals as goal
 
 pub returns-in_default : goal.returns-in_default
-returns-in_default g c = memory_later _ _ _ _ _ _ _ c.in-Ok.ensures.later (inl refl)
+returns-in_default g c = memory_later _ _ _ _ _ _ _ c.in-Ok.ensures.unchanged (inl refl)
 
 pub returns-in_default-write : goal.returns-in_default-write
-returns-in_default-write g c = memory_later _ _ _ _ _ _ _ c.in-Ok.ensures.later (inl refl)
+returns-in_default-write g c = memory_later _ _ _ _ _ _ _ c.in-Ok.ensures.unchanged (inl refl)
 
 pub returns-in_default-report : goal.returns-in_default-report
-returns-in_default-report g c = memory_later _ _ _ _ _ _ _ c.in-Ok.ensures.later (inl refl)
+returns-in_default-report g c = memory_later _ _ _ _ _ _ _ c.in-Ok.ensures.unchanged (inl refl)
 
 pub returns : goal.returns
 returns g c =
@@ -35,4 +35,4 @@ returns g c =
       report = reported;
       puts = rw written refl;
     } in
-    put_later _ _ _ _ _ _ _ _ _ _ _ _ _ _ c.in-Ok.ensures.later (inr designs) (inl refl) (inr (_, designs, refl)) (not_first _ _ _ c.in-Ok.ensures.accepted.fetched) c.put_and_end.ensures
+    put_later _ _ _ _ _ _ _ _ _ _ _ _ _ _ c.in-Ok.ensures.unchanged (inr designs) (inl refl) (inr (_, designs, refl)) (not_first _ _ _ c.in-Ok.ensures.accepted.fetched) c.put_and_end.ensures

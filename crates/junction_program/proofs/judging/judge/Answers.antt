@@ -16,7 +16,7 @@ returns-in-Ok-verdict_text g c =
     let line : c.deref.result.now ≡ verdict_line c.in-Ok.files.junction own.claim c.check-verdict.result = c.deref.ensures.value ∙ c.in-Ok-verdict_text.ensures in
     let told : only_text c.status_of_verdict.result c.deref.result.now ≡ only_text (status_of_verdict c.check-verdict.result) (verdict_line c.in-Ok.files.junction own.claim c.check-verdict.result) =
     rw (c.status_of_verdict.ensures.value, line) refl in
-    answered_later _ _ _ _ _ _ _ _ _ _ _ c.in-Ok.ensures.later
+    answered_later _ _ _ _ _ _ _ _ _ _ _ c.in-Ok.ensures.unchanged
     (inr (record {
       junction = c.in-Ok.files.junction;
       accepted = c.in-Ok.ensures.accepted;
@@ -35,4 +35,4 @@ returns-in-Ok-verdict_text g c =
     refl c.status_of_verdict.ensures.answered (neither _ _ _ _ _ c.in-Ok.ensures.accepted c.in-Ok.ensures.found.fetched) c.end_with.ensures
 
 pub returns : goal.returns
-returns g c = memory_later _ _ _ _ _ _ _ c.in-Ok.ensures.later refl
+returns g c = memory_later _ _ _ _ _ _ _ c.in-Ok.ensures.unchanged refl

@@ -16,7 +16,7 @@ pub returns-in_default : goal.returns-in_default
 returns-in_default g c =
     let own = certificate_of c.in-Ok.files.certificate in
     let none : own.plan ≡ None = search rules in
-    answered_later _ _ _ _ _ _ _ _ _ _ _ c.in-Ok.ensures.later
+    answered_later _ _ _ _ _ _ _ _ _ _ _ c.in-Ok.ensures.unchanged
     (inr (record { junction = c.in-Ok.files.junction; accepted = c.in-Ok.ensures.accepted; certificate = own; found = c.in-Ok.ensures.found; own = inr (inl (none, refl)) }))
     refl tt (neither _ _ _ _ _ c.in-Ok.ensures.accepted c.in-Ok.ensures.found.fetched) c.refuse_plan.ensures
 
@@ -27,7 +27,7 @@ returns-in-Ok-new g c =
     let same_junction : junction_of c.in-Ok-new.fitted ≡ c.in-Ok.files.junction = search rules in
     let same_plan : fitted_plan_of c.in-Ok-new.fitted ≡ plan_of c.in-Some.plan = search rules in
     let fits : Fits c.in-Ok.files.junction (plan_of c.in-Some.plan) = search rules in
-    rows_later _ _ _ _ _ _ _ _ _ _ _ c.in-Ok.ensures.later
+    rows_later _ _ _ _ _ _ _ _ _ _ _ c.in-Ok.ensures.unchanged
     (inr (record {
       junction = c.in-Ok.files.junction;
       accepted = c.in-Ok.ensures.accepted;
@@ -42,7 +42,7 @@ returns g c =
     let own = certificate_of c.in-Ok.files.certificate in
     let there : own.plan ≡ Some (plan_of c.in-Some.plan) = search rules in
     let fault : IsFirstFault c.in-Ok.files.junction (plan_of c.in-Some.plan) c.in-Err-new.fault = search rules in
-    answered_later _ _ _ _ _ _ _ _ _ _ _ c.in-Ok.ensures.later
+    answered_later _ _ _ _ _ _ _ _ _ _ _ c.in-Ok.ensures.unchanged
     (inr (record {
       junction = c.in-Ok.files.junction;
       accepted = c.in-Ok.ensures.accepted;

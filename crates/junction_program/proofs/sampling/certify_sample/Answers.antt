@@ -5,17 +5,17 @@ use Rattle.plan_certificate.specs.Reads.{Spells}
 use Rattle.plan_certificate.specs.Text.{text_of}
 use Rattle.report_text.specs.Summary.{IsSummary}
 use Rattle.junction_program.specs.Commands.{CertifiesSample}
-use Rattle.junction_program.proofs.Endings.{memory_ends, put_nothing, widened}
+use Rattle.junction_program.proofs.Endings.{memory_ends, widened}
 use Rattle.junction_program.proofs.sampling.certify_sample.Goals as goal
 
 pub returns-in_default : goal.returns-in_default
-returns-in_default g c = memory_ends _ _ _ _ _ _ _ (inl refl) (put_nothing _)
+returns-in_default g c = memory_ends _ _ _ _ _ _ (inl refl) refl refl refl
 
 pub returns-in_default-write : goal.returns-in_default-write
-returns-in_default-write g c = memory_ends _ _ _ _ _ _ _ (inl refl) (put_nothing _)
+returns-in_default-write g c = memory_ends _ _ _ _ _ _ (inl refl) refl refl refl
 
 pub returns-in_default-summary : goal.returns-in_default-summary
-returns-in_default-summary g c = memory_ends _ _ _ _ _ _ _ (inl refl) (put_nothing _)
+returns-in_default-summary g c = memory_ends _ _ _ _ _ _ (inl refl) refl refl refl
 
 pub returns : goal.returns
 returns g c =

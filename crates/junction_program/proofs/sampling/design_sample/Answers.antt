@@ -1,13 +1,13 @@
 use Rattle.std.proofs.Common.{[], refl, inl, inr, rules}
 use Rattle.junction_program.specs.Commands.{SpellsSample}
-use Rattle.junction_program.proofs.Endings.{begun_with_put, memory_ends, put_ended, put_nothing}
+use Rattle.junction_program.proofs.Endings.{begun_with_put, memory_ends, put_ended}
 use Rattle.junction_program.proofs.sampling.design_sample.Goals as goal
 
 pub returns-in_default : goal.returns-in_default
-returns-in_default g c = memory_ends _ _ _ _ _ _ _ (inl refl) (put_nothing _)
+returns-in_default g c = memory_ends _ _ _ _ _ _ (inl refl) refl refl refl
 
 pub returns-in_default-print : goal.returns-in_default-print
-returns-in_default-print g c = memory_ends _ _ _ _ _ _ _ (inl refl) (put_nothing _)
+returns-in_default-print g c = memory_ends _ _ _ _ _ _ (inl refl) refl refl refl
 
 pub returns-in-Ok-put : goal.returns-in-Ok-put
 returns-in-Ok-put g c =
