@@ -5,9 +5,13 @@
 #[cfg(test)]
 mod answer_texts;
 #[cfg(test)]
+mod of_bottleneck_lanes;
+#[cfg(test)]
 mod of_capacity_search;
 #[cfg(test)]
 mod of_certificate_checker;
+#[cfg(test)]
+mod of_cycle_curve;
 #[cfg(test)]
 mod of_cycle_orders;
 #[cfg(test)]

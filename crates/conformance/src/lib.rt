@@ -24,6 +24,10 @@ mod of_junction_model;
 #[cfg(test)]
 mod of_least_greens;
 #[cfg(test)]
+mod of_log_monitor;
+#[cfg(test)]
+mod of_plan_change;
+#[cfg(test)]
 mod of_plan_model;
 #[cfg(test)]
 mod of_plan_stretch;

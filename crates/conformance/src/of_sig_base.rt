@@ -1,4 +1,5 @@
 mod files;
 mod memory;
+mod outputs;
 mod ratios;
 mod watched_files;

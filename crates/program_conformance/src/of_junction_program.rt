@@ -4,6 +4,7 @@ mod changes;
 mod checks;
 mod designs;
 mod generated;
+mod given;
 mod outlines;
 mod plays;
 mod refusals;

@@ -4,34 +4,65 @@ use std::cell::Cell;
 use std::fs::{Metadata, OpenFile, OpenOptions, Permissions};
 use std::io;
 use std::io::{Error, ErrorKind, Read, Seek, SeekFrom, Write};
+use std::path::PathBuf;
 use std::rt::Files;
 
 /// How far the bytes of a new file have come.
-#[derive(Clone, Copy, PartialEq, Eq)]
-enum Stage {
+#[derive(Clone, Copy, Debug, PartialEq, Eq)]
+pub enum Stage {
     Opened,
     Written,
     Flushed,
     Synced,
+    Renamed,
+    /// The folder was synced after the rename.
+    Lasting,
 }
 
-/// Every second call of a read or a write is interrupted. A write takes a byte at a time, and fails
-/// when the room is used up. Only a file that was written, flushed and synced, in this order, is
-/// renamed.
+/// What a disk refuses.
+#[derive(Clone, Copy, Debug, PartialEq, Eq)]
+pub enum Refused {
+    Nothing,
+    /// To open a file that is there for writing.
+    Opening,
+    FourthByte,
+    Flush,
+    Sync,
+    Rename,
+    FolderSync,
+}
+
+/// Every second call of a read or a write is interrupted. A write takes a byte at a time. What is
+/// refused of flushes and syncs is their answer alone: whoever doesn't heed it goes on as after one
+/// that is done. Only a file that was written, flushed and synced, in this order, is renamed. Nothing
+/// is made or replaced among the devices.
 #[derive(Drop)]
 pub struct Disk {
+    refused: Refused,
     stage: Cell<Stage>,
     was_interrupted: Cell<bool>,
-    room: Cell<u32>,
+    written: Cell<u64>,
+    read: Cell<u64>,
 }
 
 impl Disk {
-    pub fn new(room: u32) -> Disk {
+    pub fn new(refused: Refused) -> Disk {
         Disk {
+            refused,
             stage: Cell::new(Stage::Opened),
             was_interrupted: Cell::new(false),
-            room: Cell::new(room),
+            written: Cell::new(0),
+            read: Cell::new(0),
         }
+    }
+
+    pub fn stage(&self) -> Stage {
+        self.stage.get()
+    }
+
+    /// How many bytes were read.
+    pub fn read(&self) -> u64 {
+        self.read.get()
     }
 
     fn pass(&self, from: Stage, to: Stage) {
@@ -40,18 +71,36 @@ impl Disk {
         }
     }
 
-    fn interrupts(&self) -> bool {
-        let interrupts = !self.was_interrupted.get();
-        self.was_interrupted.set(interrupts);
-        interrupts
+    fn refuses(&self, refused: Refused) -> io::Result<()> {
+        if self.refused == refused {
+            Err(Error::from(ErrorKind::Other))
+        } else {
+            Ok(())
+        }
     }
 
-    fn takes_a_byte(&self) -> bool {
-        let room = self.room.get();
-        self.room.set(room.saturating_sub(1));
-        self.stage.set(Stage::Written);
-        room > 0
+    fn interrupts(&self) -> io::Result<()> {
+        let interrupts = !self.was_interrupted.get();
+        self.was_interrupted.set(interrupts);
+        if interrupts {
+            Err(Error::from(ErrorKind::Interrupted))
+        } else {
+            Ok(())
+        }
     }
+
+    fn takes_a_byte(&self) -> io::Result<()> {
+        self.stage.set(Stage::Written);
+        self.written.set(self.written.get().saturating_add(1));
+        if self.written.get() == 4 {
+            self.refuses(Refused::FourthByte)?;
+        }
+        Ok(())
+    }
+}
+
+fn is_device(path: &str) -> bool {
+    path.starts_with("/dev/")
 }
 
 #[derive(Drop)]
@@ -68,27 +117,29 @@ pub struct WatchedFile<'r, F: Drop> {
 
 impl<'r, F: Write + Drop> Write for WatchedFile<'r, F> {
     fn write(&mut self, bytes: &[u8]) -> io::Result<usize> {
-        if self.disk.interrupts() {
-            return Err(Error::from(ErrorKind::Interrupted));
-        }
-        if bytes.is_empty() || !self.disk.takes_a_byte() {
-            return Err(Error::from(ErrorKind::StorageFull));
+        self.disk.interrupts()?;
+        self.disk.takes_a_byte()?;
+        if bytes.is_empty() {
+            return Ok(0);
         }
         self.file.write(&bytes[..1])
     }
 
     fn flush(&mut self) -> io::Result<()> {
         self.disk.pass(Stage::Written, Stage::Flushed);
+        self.disk.refuses(Refused::Flush)?;
         self.file.flush()
     }
 }
 
 impl<'r, F: Read + Drop> Read for WatchedFile<'r, F> {
     fn read(&mut self, bytes: &mut [u8]) -> io::Result<usize> {
-        if self.disk.interrupts() {
-            return Err(Error::from(ErrorKind::Interrupted));
-        }
-        self.file.read(bytes)
+        self.disk.interrupts()?;
+        let count = self.file.read(bytes)?;
+        self.disk
+            .read
+            .set(self.disk.read.get().saturating_add(count as u64));
+        Ok(count)
     }
 }
 
@@ -108,7 +159,13 @@ impl<'r, F: OpenFile + Drop> OpenFile for WatchedFile<'r, F> {
     }
 
     fn sync_all(&self) -> io::Result<()> {
-        self.disk.pass(Stage::Flushed, Stage::Synced);
+        if self.file.metadata()?.is_dir() {
+            self.disk.pass(Stage::Renamed, Stage::Lasting);
+            self.disk.refuses(Refused::FolderSync)?;
+        } else {
+            self.disk.pass(Stage::Flushed, Stage::Synced);
+            self.disk.refuses(Refused::Sync)?;
+        }
         self.file.sync_all()
     }
 
@@ -127,6 +184,12 @@ impl<'r, R: Files> Files for WatchedFiles<'r, R> {
     type Dir = R::Dir;
 
     fn open_file(&self, how: &OpenOptions, path: &str) -> io::Result<WatchedFile<'r, R::File>> {
+        if how.asks_create_new() && is_device(path) {
+            return Err(Error::from(ErrorKind::PermissionDenied));
+        }
+        if how.asks_write() && !how.asks_create_new() {
+            self.disk.refuses(Refused::Opening)?;
+        }
         Ok(WatchedFile {
             file: self.files.open_file(how, path)?,
             disk: self.disk,
@@ -150,9 +213,11 @@ impl<'r, R: Files> Files for WatchedFiles<'r, R> {
     }
 
     fn rename(&self, from: &str, to: &str) -> io::Result<()> {
-        if self.disk.stage.get() != Stage::Synced {
-            return Err(Error::from(ErrorKind::Other));
+        self.disk.refuses(Refused::Rename)?;
+        if self.disk.stage() != Stage::Synced || is_device(to) {
+            return Err(Error::from(ErrorKind::PermissionDenied));
         }
+        self.disk.stage.set(Stage::Renamed);
         self.files.rename(from, to)
     }
 
@@ -170,5 +235,9 @@ impl<'r, R: Files> Files for WatchedFiles<'r, R> {
 
     fn remove_dir_all<B: Allocator>(&self, alloc: B, path: &str) -> io::Result<()> {
         self.files.remove_dir_all(alloc, path)
+    }
+
+    fn canonicalize<B: Allocator>(&self, alloc: B, path: &str) -> io::Result<PathBuf<B>> {
+        self.files.canonicalize(alloc, path)
     }
 }
