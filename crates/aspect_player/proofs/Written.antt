@@ -1,5 +1,6 @@
 -- Texts that are written one after another.
-use Rattle.std.proofs.Common.{ℕ, List, [], ◌∷◌, ◌++◌, Option, Ok, Err, ◌≡◌, ◌≤◌, ◌<◌, ◌+◌, ◌-◌, length, take, drop, refl, sym, ap, ◌∙◌, subst, arith, append_assoc, take-append-drop}
+use Rattle.std.proofs.Common.{ℕ, List, [], ◌∷◌, ◌++◌, Option, Ok, Err, ◌≡◌, ◌≤◌, ◌<◌, ◌+◌, ◌-◌, inl, inr, length, take, drop, refl, sym, ap, ◌∙◌, subst, arith, append_assoc, take-append-drop}
+use Rattle.std.proofs.Math.Seq.{take-length}
 use Rattle.std.proofs.lemmas.List.{append-nil}
 use Rattle.std.specs.Prelude.{IsErrOf}
 use Rattle.std.specs.Io.KnownBytes.{Appends}
@@ -10,7 +11,7 @@ use Rattle.aspect_player.specs.declared.fault.PlayFault.{PlayFault}
 use Rattle.aspect_player.specs.declared.fault.PlayFault.TheVariants.{Sink, Memory}
 use Rattle.aspect_player.specs.Timetable.{Display, rows_from, rows_by}
 use Rattle.aspect_player.specs.Lines.{row_line, row_lines, header_line, display_line, display_text}
-use Rattle.aspect_player.specs.Written.{Writes}
+use Rattle.aspect_player.specs.Written.{Writes, EndsInRow}
 use Rattle.aspect_player.proofs.Timetable.{rows_split, row_count}
 
 take_front : (xs ys : List ℕ) → take (length xs) (xs ++ ys) ≡ xs
@@ -108,3 +109,29 @@ stopped_after junction display k n old now f g within so_far =
     ap (display_text junction display) count ∙ text_split junction display k (n - k) ∙ ap (λ l. l ++ rest) (sym (append-nil (display_text junction display k))) in
     failed_after old now now (display_text junction display k) [] rest (display_text junction display n) f g g Memory so_far.appended so_far.faults
     (record { whole = tt; part = (0, appends-none now); later = omega arith; failed = λ sink. absurd (memory_no_sink sink); same = tt }) whole
+
+-- where what was written ends: within the header
+pub ends_in_header : (junction own : JunctionView) (display : Display) (t : ℕ) (old now : Option (List ℕ)) (f g : ℕ) (e : PlayFault) → own ≡ junction → t ≡ 0 →
+    Writes {T = Unit {0}} old now (header_line own) f g (Err e) → EndsInRow old now junction display t
+ends_in_header junction own display t old now f g e same first w = inr (first, (w.part.0, subst (λ j. Appends old now (take w.part.0 (header_line j))) same w.part.1))
+
+module _ (junction : JunctionView) (display : Display) (k t : ℕ) (at : t ≡ k) where
+  -- before the row of second k
+  pub ends_before_row : (old now : Option (List ℕ)) (f g : ℕ) → HasWritten old now (display_text junction display k) f g → EndsInRow old now junction display t
+  ends_before_row old now f g so_far =
+      let whole : Appends old now (display_text junction display k ++ []) = subst (Appends old now) (sym (append-nil (display_text junction display k))) so_far.appended in
+      subst (EndsInRow old now junction display) (sym at) (inl (0, whole))
+
+  module _ (old a b : Option (List ℕ)) (f g h : ℕ) (line : List ℕ) (own : line ≡ display_line junction display k) (so_far : HasWritten old a (display_text junction display k) f g) where
+    -- within it
+    pub ends_in_row : (e : PlayFault) → Writes {T = Unit {0}} a b line g h (Err e) → EndsInRow old b junction display t
+    ends_in_row e w =
+        let part : Appends a b (take w.part.0 (display_line junction display k)) = subst (λ l. Appends a b (take w.part.0 l)) own w.part.1 in
+        subst (EndsInRow old b junction display) (sym at) (inl (w.part.0, appends-more old a b _ _ so_far.appended part))
+
+    -- just behind it
+    pub ends_behind_row : Writes {T = Unit {0}} a b line g h (Ok tt) → EndsInRow old b junction display t
+    ends_behind_row w =
+        let row = display_line junction display k in
+        let whole : Appends a b (take (length row) row) = subst (Appends a b) (own ∙ sym (take-length row)) w.whole in
+        subst (EndsInRow old b junction display) (sym at) (inl (length row, appends-more old a b _ _ so_far.appended whole))

@@ -1,7 +1,8 @@
 ghost use Rattle.std.specs.Prelude.{◌≡◌, ◌<◌, ◌≤◌, ◌+◌, ◌-◌, ◌^◌, IfOk, OnOk, OnErr};
+ghost use Rattle.aspect_player.specs.Aspect.{aspect_at};
 ghost use Rattle.aspect_player.specs.Lines.{own_line, played_text};
 ghost use Rattle.aspect_player.specs.Player.{junction_in, plan_in, second_of, row_of};
-ghost use Rattle.aspect_player.specs.Written.{Writes};
+ghost use Rattle.aspect_player.specs.Written.{Writes, EndsInRow};
 
 use crate::aspect::Aspect;
 use crate::fault::PlayFault;
@@ -45,7 +46,7 @@ fn push_second<K: Sink>(alloc: Global, player: &mut Player, sink: &mut K) -> Res
 }
 
 /// Pushes the header and one row for each of so many seconds, each in a push of its own. After a
-/// fault the player stands at some second up to that.
+/// fault the player stands at the second within whose row the text ends.
 pub fn write_rows<K: Sink>(
     alloc: Global,
     player: &mut Player,
@@ -61,6 +62,8 @@ pub fn write_rows<K: Sink>(
     ensures plan { plan_in player.new ≡ plan_in player.old }
     ensures end { OnOk result (second_of player.new ≡ seconds) }
     ensures within { second_of player.new ≤ seconds }
+    ensures own_row { EndsInRow (K.written sink.old) (K.written sink.new)
+        (junction_in player.old) (aspect_at (plan_in player.old)) (second_of player.new) }
 {
     match push_header(alloc, player.plan().junction(), sink) {
         Ok(()) => {}

@@ -1,9 +1,10 @@
 ghost use Rattle.std.specs.Prelude.{◌≡◌, ◌<◌, ◌≤◌, ◌+◌, ◌^◌, [], take, All, OnOk, OnErr, IfOk};
-ghost use Rattle.aspect_player.specs.Written.{Writes};
+ghost use Rattle.aspect_player.specs.Written.{Writes, EndsInRow};
 ghost use Rattle.plan_change.specs.Changer.{junction_in, first_in, requests_in, second_in};
 ghost use Rattle.plan_change.specs.Changer.{row_in, line_in};
 ghost use Rattle.plan_change.specs.Planned.{requests_planned, AreRising, ArePlannedFor, IsDueFrom};
 ghost use Rattle.plan_change.specs.Planned.{AreMade, changed_text};
+ghost use Rattle.plan_change.specs.Changes.{change_display};
 
 use crate::change_list::{ChangeList, PlannedChange};
 use crate::changer::Changer;
@@ -64,8 +65,8 @@ fn make_due<'j>(
 
 /// Pushes the header and one row for each of so many seconds, each in a push of its own, and makes
 /// each change at its second after that row. After a fault a part of the text from its beginning is
-/// written, and the changer stands at some second up to that; the changes before that second are
-/// made, and no others.
+/// written, and the changer stands at the second within whose row it ends; the changes before that
+/// second are made, and no others.
 pub fn write_changes<'j, K: Sink>(
     alloc: Global,
     changer: &mut Changer<'j>,
@@ -88,6 +89,9 @@ pub fn write_changes<'j, K: Sink>(
     ensures requests { OnOk result (requests_in changer.new ≡ requests_planned changes.now) }
     ensures end { OnOk result (second_in changer.new ≡ seconds) }
     ensures within { second_in changer.new ≤ seconds }
+    ensures own_row { EndsInRow (K.written sink.old) (K.written sink.new) (junction_in changer.old)
+        (change_display (junction_in changer.old) (first_in changer.old)
+        (requests_planned changes.now)) (second_in changer.new) }
 {
     changer.junction().rules();
     let planned = changes.items();

@@ -6,7 +6,7 @@ use Rattle.aspect_player.specs.Player.{junction_in, plan_in, second_of}
 use Rattle.aspect_player.specs.Written.{Writes}
 use Rattle.aspect_player.specs.declared.player.Player.{Player}
 use Rattle.aspect_player.proofs.Playing.{IsPlaying}
-use Rattle.aspect_player.proofs.Written.{begun, one_more, failed_header, failed_row}
+use Rattle.aspect_player.proofs.Written.{begun, one_more, failed_header, failed_row, ends_in_header, ends_before_row, ends_in_row}
 use Rattle.aspect_player.proofs.rows.write_rows.Goals as goal
 
 -- the line that a player pushes
@@ -58,3 +58,23 @@ loop-second-preserved g c =
       player = record { second = step.on ∙ ap (λ n. n + 1) is.second; junction = step.junction ∙ is.junction; plan = step.plan ∙ is.plan };
       written = one_more (junction_in player) (aspect_at (plan_in player)) k _ _ _ _ _ _ c.loop-second.invariant.written (subst P line step.written);
     }
+
+pub returns-in-Err-clause-own_row : goal.returns-in-Err-clause-own_row
+returns-in-Err-clause-own_row g c =
+    let player = c.args.player.now in
+    let same : c.junction.result.now ≡ junction_in player = c.junction.ensures ∙ c.plan.ensures.junction in
+    ends_in_header (junction_in player) c.junction.result.now (aspect_at (plan_in player)) _ _ _ _ _ c.in-Err.fault same c.requires.start c.in-Err.ensures
+
+pub returns-in-Err-push_second-clause-own_row : goal.returns-in-Err-push_second-clause-own_row
+returns-in-Err-push_second-clause-own_row g c =
+    let player = c.args.player.now in
+    let k = c.loop-second._second in
+    let is = c.loop-second.invariant.player in
+    let stays : second_of c.push_second.new.player ≡ k = c.in-Err-push_second.ensures.stays ∙ is.second in
+    ends_in_row (junction_in player) (aspect_at (plan_in player)) k _ stays _ _ _ _ _ _ _ (line_of player c.loop-second.player k is)
+    c.loop-second.invariant.written c.in-Err-push_second.fault c.in-Err-push_second.ensures.written
+
+pub returns-clause-own_row : goal.returns-clause-own_row
+returns-clause-own_row g c =
+    let player = c.args.player.now in
+    ends_before_row (junction_in player) (aspect_at (plan_in player)) c.loop-second._second _ c.loop-second.invariant.player.second _ _ _ _ c.loop-second.invariant.written

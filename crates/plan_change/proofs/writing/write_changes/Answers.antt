@@ -8,7 +8,7 @@ use Rattle.plan_model.specs.SignalPlan.{PlanView}
 use Rattle.aspect_player.specs.Lines.{header_line, row_line, display_line}
 use Rattle.aspect_player.specs.Timetable.{Display}
 use Rattle.aspect_player.specs.Written.{Writes}
-use Rattle.aspect_player.proofs.Written.{begun, one_more, failed_header, failed_row, stopped_after}
+use Rattle.aspect_player.proofs.Written.{begun, one_more, failed_header, failed_row, stopped_after, ends_in_header, ends_before_row, ends_in_row, ends_behind_row}
 use Rattle.plan_change.specs.declared.change_list.PlannedChange.{PlannedChange}
 use Rattle.plan_change.specs.declared.changer.Changer.{Changer}
 use Rattle.plan_change.specs.Changer.{junction_in, first_in, requests_in, second_in, line_in}
@@ -149,3 +149,36 @@ returns-in-Err-make_due-clause-made g c =
 pub returns-clause-made : goal.returns-clause-made
 returns-clause-made g c =
     playing_made c.args.changer.now c.loop-second.changer c.args.changes.now c.loop-second._second c.loop-second.made c.loop-second.invariant.changer
+
+pub returns-in-Err-clause-own_row : goal.returns-in-Err-clause-own_row
+returns-in-Err-clause-own_row g c =
+    let changer = c.args.changer.now in
+    let display : Display = change_display (junction_in changer) (first_in changer) (requests_planned c.args.changes.now) in
+    ends_in_header (junction_in changer) c.junction-2.result.now display _ _ _ _ _ c.in-Err.fault c.junction-2.ensures c.requires.start c.in-Err.ensures
+
+pub returns-in-Err-push_second-clause-own_row : goal.returns-in-Err-push_second-clause-own_row
+returns-in-Err-push_second-clause-own_row g c =
+    let changer = c.args.changer.now in
+    let display : Display = change_display (junction_in changer) (first_in changer) (requests_planned c.args.changes.now) in
+    let rules : IsJunction (junction_in changer) = subst IsJunction c.junction.ensures c.rules.ensures in
+    let k = c.loop-second._second in
+    let is = c.loop-second.invariant.changer in
+    let line = line_of changer c.loop-second.changer c.args.changes.now k c.loop-second.made rules changer.agrees.fits c.requires.fit c.items-planned.ensures.rising is in
+    ends_in_row (junction_in changer) display k _ is.second _ _ _ _ _ _ _ line c.loop-second.invariant.written c.in-Err-push_second.fault c.in-Err-push_second.ensures
+
+pub returns-in-Err-make_due-clause-own_row : goal.returns-in-Err-make_due-clause-own_row
+returns-in-Err-make_due-clause-own_row g c =
+    let changer = c.args.changer.now in
+    let display : Display = change_display (junction_in changer) (first_in changer) (requests_planned c.args.changes.now) in
+    let rules : IsJunction (junction_in changer) = subst IsJunction c.junction.ensures c.rules.ensures in
+    let k = c.loop-second._second in
+    let is = c.loop-second.invariant.changer in
+    let line = line_of changer c.loop-second.changer c.args.changes.now k c.loop-second.made rules changer.agrees.fits c.requires.fit c.items-planned.ensures.rising is in
+    let stays : second_in c.make_due.new.changer ≡ k = c.make_due.ensures.second ∙ is.second in
+    ends_behind_row (junction_in changer) display k _ stays _ _ _ _ _ _ _ line c.loop-second.invariant.written c.in-Ok-push_second.ensures
+
+pub returns-clause-own_row : goal.returns-clause-own_row
+returns-clause-own_row g c =
+    let changer = c.args.changer.now in
+    let display : Display = change_display (junction_in changer) (first_in changer) (requests_planned c.args.changes.now) in
+    ends_before_row (junction_in changer) display c.loop-second._second _ c.loop-second.invariant.changer.second _ _ _ _ c.loop-second.invariant.written
